@@ -73,6 +73,7 @@ impl MonitoredKey {
             (FollowsReadBegun (state_of self.old) (state_of self.new) place) }
         ensures held { OnOk result (HasReadBegun self.old number place self.new) }
         ensures lost { OnOk result (IsLost self.old → ⊥) }
+        ensures kept { OnOk result (IsLost self.new → ⊥) }
         ensures err { OnErr result (IsLost self.new) }
     {
         let mut kept = self.take()?;
@@ -90,6 +91,7 @@ impl MonitoredKey {
             (FollowsWriteBegun (state_of self.old) (state_of self.new) number value.now place) }
         ensures held { OnOk result (HasWriteBegun self.old number value.now place self.new) }
         ensures lost { OnOk result (IsLost self.old → ⊥) }
+        ensures kept { OnOk result (IsLost self.new → ⊥) }
         ensures err { OnErr result (IsLost self.new) }
     {
         let mut kept = self.take()?;
@@ -106,6 +108,7 @@ impl MonitoredKey {
             (FollowsWriteEnded (state_of self.old) (state_of self.new) number place) }
         ensures held { OnOk result (HasWriteEnded self.old place self.new) }
         ensures lost { OnOk result (IsLost self.old → ⊥) }
+        ensures kept { OnOk result (IsLost self.new → ⊥) }
         ensures err { OnErr result (IsLost self.new) }
     {
         let mut kept = self.take()?;
@@ -134,6 +137,7 @@ impl MonitoredKey {
         ensures held { IfOk result (λ judged.
             ChangesBy self.old begin (option_copied value.entry) place judged self.new) }
         ensures lost { OnOk result (IsLost self.old → ⊥) }
+        ensures kept { OnOk result (IsLost self.new → ⊥) }
         ensures err { OnErr result (IsLost self.new) }
     {
         let mut kept = self.take()?;

@@ -1,0 +1,54 @@
+use Rattle.std.proofs.Common.{ℕ, ◌≡◌, ◌+◌, [], ◌∷◌, ◌++◌, length, ap, sym, ◌∙◌, arith}
+use Rattle.std.proofs.lemmas.Result.{err_from_is_err_and}
+use Rattle.recorder.specs.declared.row.Row.TheVariants.{Note}
+use Rattle.recorder.specs.Histories.{call_count}
+use Rattle.growing_parts.proofs.Rows.{formed_next}
+use Rattle.open_calls.specs.Open.{Open}
+use Rattle.record_monitor.specs.declared.taken.Begun.{Begun}
+use Rattle.record_monitor.proofs.Calls.{begun_noted}
+use Rattle.record_monitor.proofs.Counting.{count_push, one_longer}
+use Rattle.record_monitor.proofs.Finishing.{at_place, kept, small_place}
+use Rattle.record_monitor.proofs.Taking.{noted_kept, with_calls}
+use Rattle.record_monitor.proofs.taken.Taken.note.Goals as goal
+
+pub returns-in_err-note : goal.returns-in_err-note
+returns-in_err-note c = λ rows tag formed k.
+    let p = err_from_is_err_and c.from_residual.result c.from_residual.ensures.1 in
+    let r = c.in_err-note.ensures.row rows tag k.opens in
+    rw (p.1, p.2) (r.0, λ other. ap (λ (x : Open Begun). record c.args.self.now { calls = x }) r.1)
+
+pub end_row-requires-clause-some : goal.end_row-requires-clause-some
+end_row-requires-clause-some c =
+    let old = c.args.self.now in
+    let k = c.requires.keeps in (
+      c.requires.rows,
+      k.gone,
+      with_calls old.place c.requires.rows k.gone old c.note.new.self (at_place (length c.requires.rows)
+          c.requires.rows k.gone old k.keys),
+    )
+
+pub end_row-requires-clause-small : goal.end_row-requires-clause-small
+end_row-requires-clause-small c =
+    let k = c.requires.keeps in
+    small_place c.requires.rows c.requires.rows k.gone c.args.self.now c.requires.formed k.few k.keys
+
+pub returns : goal.returns
+returns c = λ rows tag formed k.
+    let old = c.args.self.now in
+    let op = c.args.op in
+    let row = Note op tag in
+    let taken = c.in_ok-note.ensures.row rows tag k.opens in
+    let may = taken.0 in
+    let after = noted_kept (length rows) rows k.gone old formed op tag may k.keys in
+    let ended = c.end_row.ensures.keys (rows ++ row ∷ []) k.gone (formed_next rows row formed may)
+    (one_longer rows row ∙ ap (λ (n : ℕ). n + 1) (sym k.keys.at))
+    (with_calls old.place (rows ++ row ∷ []) k.gone old c.note.new.self (at_place (length rows) (rows ++ row ∷ []) k.gone old after)) in
+    let noted = c.in_ok-note.ensures.ok in
+    let calls : call_count (rows ++ row ∷ []) ≡ call_count rows + 0 = count_push rows row in (
+      may,
+      kept (rows ++ row ∷ []) ended.0 c.end_row.new.self old.keys.numbers c.note.new.self ended.1 c.end_row.ensures.calls
+          c.end_row.ensures.numbers taken.1
+          (begun_noted rows row old.keys.numbers old.keys.numbers old.calls c.note.new.self
+          (λ n key e. e) k.begun op noted.0 noted.1.is noted.2)
+          (omega (arith, k.few, calls)),
+    )

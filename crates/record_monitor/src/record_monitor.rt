@@ -1,0 +1,166 @@
+//! A monitor of a record.
+ghost use Rattle.std.specs.Prelude.{◌≡◌, [], true, List, Some, None, IfOk, IfSome, OnErr, count_by};
+ghost use Rattle.tag.specs.Names.{is_key};
+ghost use Rattle.tag.specs.Tags.{Tag};
+ghost use Rattle.recorder.specs.declared.row.Row.{Row};
+ghost use Rattle.recorder.specs.Histories.{IsWellFormed};
+ghost use Rattle.record_monitor.specs.Taken.{KeepsSome};
+ghost use Rattle.record_monitor.specs.Followed.{is_doubtful, is_refused};
+ghost use Rattle.record_monitor.specs.Monitored.{HasTaken, Takes, begun_of, keys_of, left_of, reports_of, watched_of};
+
+use crate::report::Report;
+use crate::taken::Taken;
+use open_calls::CallRefusal;
+use recorder::{ActionRef, ReturnedRef};
+use std::alloc::Global;
+use std::marker::Model;
+use tag::{ClientId, Key, Memory, OpId};
+
+/// A record of calls on registers, judged by its values while it comes.
+///
+/// A row that breaks a rule is refused, and leaves all as it was. A read that was pending for more than `give_up` rows is given
+/// up: its key is judged without it. Of each key the first refusal is reported, from which on it isn't judged, and the first
+/// undecided read. On `Memory` all that was known is lost, and each further row answers `Memory`.
+///
+/// Memory goes with how many calls are pending, the keys, what is kept of each, and the reports. A row takes about the
+/// logarithm of that.
+#[derive(Drop)]
+pub struct RecordMonitor {
+    taken: Option<Taken>,
+}
+
+impl Model for RecordMonitor {
+    ghost use Rattle.std.specs.Prelude.{Option, IfSome};
+    ghost use Rattle.std.specs.Coded.{coded_option};
+    ghost use Rattle.record_monitor.specs.declared.taken.Taken.{Taken};
+    ghost use Rattle.record_monitor.specs.contracts.taken.Taken as whole;
+
+    ghost Value = { Option Taken };
+
+    ghost coded = { coded_option whole.the_row.coded };
+
+    ghost use Rattle.record_monitor.specs.Taken.{KeepsSome};
+
+    ghost view = { λ m. m.taken };
+
+    ghost invariant = { λ m. IfSome m.taken KeepsSome };
+}
+
+impl RecordMonitor {
+    /// No row was taken.
+    pub fn new(alloc: Global, give_up: u64) -> RecordMonitor
+        ensures { HasTaken [] result }
+    {
+        RecordMonitor {
+            taken: Some(Taken::new(alloc, give_up)),
+        }
+    }
+
+    /// What was found so far, in the order of the rows.
+    pub fn reports(&self) -> &[Report]
+        ensures { result.now ≡ reports_of self.now }
+    {
+        match &self.taken {
+            Some(taken) => taken.keys().reports(),
+            None => &[],
+        }
+    }
+
+    /// The keys, by number: in the order in which they are first seen.
+    pub fn keys(&self) -> &[Key]
+        ensures { result.now ≡ keys_of self.now }
+    {
+        match &self.taken {
+            Some(taken) => taken.keys().keys(),
+            None => &[],
+        }
+    }
+
+    /// How many calls were begun.
+    pub fn begun(&self) -> u64
+        ensures { result ≡ begun_of self.now }
+    {
+        match &self.taken {
+            Some(taken) => taken.begun(),
+            None => 0,
+        }
+    }
+
+    /// Of how many keys the calls have no order.
+    pub fn refused_count(&self) -> usize
+        ensures { result ≡ count_by is_refused (watched_of self.now) }
+    {
+        match &self.taken {
+            Some(taken) => taken.keys().refused_count(),
+            None => 0,
+        }
+    }
+
+    /// How many keys have a doubt.
+    pub fn doubtful_count(&self) -> usize
+        ensures { result ≡ count_by is_doubtful (watched_of self.now) }
+    {
+        match &self.taken {
+            Some(taken) => taken.keys().doubtful_count(),
+            None => 0,
+        }
+    }
+
+    /// Takes out what is kept, if it isn't lost.
+    fn take(&mut self) -> Result<Taken, Memory>
+        ensures kept { IfOk result (λ taken. KeepsSome taken × (self.old ≡ Some taken)) }
+        ensures lost { OnErr result (self.old ≡ None) }
+    {
+        self.taken.take().ok_or(Memory)
+    }
+
+    /// Keeps what is left after a row that was answered so.
+    fn keep(&mut self, taken: Taken, answer: Result<(), CallRefusal>) -> Result<(), CallRefusal>
+        requires { IfSome (left_of taken answer) KeepsSome }
+        ensures kept { self.new ≡ left_of taken answer }
+        ensures answer { result ≡ answer }
+    {
+        self.taken = match answer {
+            Err(CallRefusal::Memory) => None,
+            _ => Some(taken),
+        };
+        answer
+    }
+
+    /// A client begins a call on a key.
+    pub fn invoke(
+        &mut self,
+        op: OpId,
+        client: ClientId,
+        key: &str,
+        action: &ActionRef<'_>,
+    ) -> Result<(), CallRefusal>
+        requires key { is_key key.now ≡ true }
+        ensures { (rows : List Row) → IsWellFormed rows → HasTaken rows self.old
+            → Takes rows self.old (Row.Invoke op client key.now action.now) result self.new }
+    {
+        let mut taken = self.take()?;
+        let answer = taken.invoke(op, client, key, action);
+        self.keep(taken, answer)
+    }
+
+    /// A call's tag is fixed.
+    pub fn note(&mut self, op: OpId) -> Result<(), CallRefusal>
+        ensures { (rows : List Row) (tag : Tag) → IsWellFormed rows → HasTaken rows self.old
+            → Takes rows self.old (Row.Note op tag) result self.new }
+    {
+        let mut taken = self.take()?;
+        let answer = taken.note(op);
+        self.keep(taken, answer)
+    }
+
+    /// A call is answered.
+    pub fn respond(&mut self, op: OpId, returned: &ReturnedRef<'_>) -> Result<(), CallRefusal>
+        ensures { (rows : List Row) → IsWellFormed rows → HasTaken rows self.old
+            → Takes rows self.old (Row.Respond op returned.now) result self.new }
+    {
+        let mut taken = self.take()?;
+        let answer = taken.respond(op, returned);
+        self.keep(taken, answer)
+    }
+}

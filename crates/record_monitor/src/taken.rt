@@ -1,0 +1,249 @@
+//! What is kept of the rows that were taken.
+ghost use Rattle.std.specs.Prelude.{◌≡◌, ◌<◌, ◌+◌, ◌^◌, ℕ, [], ◌∷◌, ◌++◌, List, None, Some, true, Contains, IfErr, OnOk, length};
+ghost use Rattle.std.specs.Prelude.{slice_get};
+ghost use Rattle.std.specs.Option.{option_copied};
+ghost use Rattle.tag.specs.Names.{is_key};
+ghost use Rattle.tag.specs.Tags.{Tag};
+ghost use Rattle.tag.specs.declared.actions.Action.{Action as Asked};
+ghost use Rattle.tag.specs.declared.actions.Action.TheVariants as asked;
+ghost use Rattle.tag.specs.declared.actions.Returned.TheVariants as answered;
+ghost use Rattle.recorder.specs.declared.row.Row.{Row};
+ghost use Rattle.recorder.specs.Histories.{IsWellFormed, MayFollow};
+ghost use Rattle.record_monitor.specs.Taken.{HasMoved, IsBegun, KeepsKeys, KeepsRows, KeepsSome, MayTake, TakesNext};
+ghost use Rattle.record_monitor.specs.Waiting.{AreGivenUp, AreRecent, AreWaiting};
+ghost use Rattle.record_monitor.specs.Watched.{AreWatched, IsNumberOf};
+ghost use Rattle.monitored_key.specs.Maps.{entry_at};
+
+use crate::watched_keys::WatchedKeys;
+use open_calls::{CallRefusal, OpenCalls};
+use recorder::{ActionRef, ReturnedRef};
+use std::alloc::Global;
+use std::collections::BTreeMap;
+use tag::{ClientId, Memory, OpId};
+
+/// What is kept of a pending call.
+#[derive(Clone, Copy, Debug, Drop)]
+pub(crate) struct Begun {
+    /// The number of its key.
+    key: usize,
+    /// The place of its row.
+    place: u64,
+}
+
+/// What is kept of the rows that were taken.
+#[derive(Drop)]
+pub(crate) struct Taken {
+    /// The pending calls.
+    calls: OpenCalls<Begun>,
+    keys: WatchedKeys,
+    /// By the place of its row, the number of the key of each pending read that isn't given up.
+    reads: BTreeMap<u64, usize>,
+    /// How many rows were taken: the next row's place.
+    place: u64,
+    /// A read is given up once it was pending for more than so many rows.
+    give_up: u64,
+}
+
+/// The call's number, which is below 2^32.
+fn call_number(op: OpId) -> u32
+    ensures { result ≡ op.0 }
+{
+    op.0
+}
+
+impl Taken {
+    /// No row.
+    pub(crate) fn new(alloc: Global, give_up: u64) -> Taken
+        ensures { KeepsRows [] result }
+    {
+        Taken {
+            calls: OpenCalls::new(alloc),
+            keys: WatchedKeys::new(alloc),
+            reads: BTreeMap::new(alloc),
+            place: 0,
+            give_up,
+        }
+    }
+
+    /// The keys.
+    pub(crate) fn keys(&self) -> &WatchedKeys
+        ensures { result.now ≡ self.now.keys }
+    {
+        &self.keys
+    }
+
+    /// How many calls were begun.
+    pub(crate) fn begun(&self) -> u64
+        ensures { result ≡ self.now.calls.begun }
+    {
+        self.calls.begun()
+    }
+
+    /// A call begins.
+    pub(crate) fn invoke(
+        &mut self,
+        op: OpId,
+        client: ClientId,
+        key: &str,
+        action: &ActionRef<'_>,
+    ) -> Result<(), CallRefusal>
+        requires key { is_key key.now ≡ true }
+        requires some { KeepsSome self.old }
+        ensures { (rows : List Row) → IsWellFormed rows → KeepsRows rows self.old
+            → TakesNext rows self.old (Row.Invoke op client key.now action.now) result self.new }
+    {
+        // A call has at most three rows, so that each place is below 2^63.
+        let _number = call_number(op);
+        let begun = Begun {
+            key: self.keys.number_of(key),
+            place: self.place,
+        };
+        self.calls.begin(op, client, action, begun)?;
+        self.begin(begun.key, key, op, action)?;
+        self.end_row();
+        Ok(())
+    }
+
+    /// The key takes the call, which waits for its answer if it is a read.
+    fn begin(
+        &mut self,
+        number: usize,
+        key: &str,
+        op: OpId,
+        action: &ActionRef<'_>,
+    ) -> Result<(), Memory>
+        requires key { is_key key.now ≡ true }
+        requires number { IsNumberOf self.old.keys.numbers key.now number }
+        requires may { (client : ℕ) × MayTake self.old (Row.Invoke op client key.now action.now) }
+        requires small { self.old.place < 2 ^ 63 }
+        ensures calls { self.new.calls ≡ self.old.calls }
+        ensures here { OnOk result (slice_get self.new.keys.numbers number ≡ Some key.now) }
+        ensures stay { OnOk result ((n : ℕ) (k : List ℕ) → slice_get self.old.keys.numbers n ≡ Some k
+            → slice_get self.new.keys.numbers n ≡ Some k) }
+        ensures keys { OnOk result ((rows : List Row) (gone : List ℕ) (client : ℕ) → IsWellFormed rows
+            → MayFollow rows (Row.Invoke op client key.now action.now)
+            → KeepsKeys (length rows) rows gone self.old
+            → KeepsKeys (length rows) (rows ++ Row.Invoke op client key.now action.now ∷ []) gone self.new) }
+    {
+        self.keys.begin(number, key, op, action, self.place)?;
+        match action.written() {
+            None => {
+                self.reads.insert(self.place, number)?;
+                Ok(())
+            }
+            Some(_) => Ok(()),
+        }
+    }
+
+    /// A call is noted.
+    pub(crate) fn note(&mut self, op: OpId) -> Result<(), CallRefusal>
+        requires { KeepsSome self.old }
+        ensures { (rows : List Row) (tag : Tag) → IsWellFormed rows → KeepsRows rows self.old
+            → TakesNext rows self.old (Row.Note op tag) result self.new }
+    {
+        self.calls.note(op)?;
+        self.end_row();
+        Ok(())
+    }
+
+    /// A call is answered.
+    pub(crate) fn respond(
+        &mut self,
+        op: OpId,
+        returned: &ReturnedRef<'_>,
+    ) -> Result<(), CallRefusal>
+        requires { KeepsSome self.old }
+        ensures { (rows : List Row) → IsWellFormed rows → KeepsRows rows self.old
+            → TakesNext rows self.old (Row.Respond op returned.now) result self.new }
+    {
+        let begun = self.calls.answer(op, returned)?.payload;
+        self.end(op, begun, returned)?;
+        self.end_row();
+        Ok(())
+    }
+
+    /// The key takes the answer.
+    fn end(&mut self, op: OpId, begun: Begun, returned: &ReturnedRef<'_>) -> Result<(), Memory>
+        requires may { (m : MayTake self.old (Row.Respond op returned.now))
+            × IsBegun m.rows self.old.keys.numbers op begun }
+        requires small { self.old.place < 2 ^ 63 }
+        ensures calls { self.new.calls ≡ self.old.calls }
+        ensures numbers { self.new.keys.numbers ≡ self.old.keys.numbers }
+        ensures keys { OnOk result ((rows : List Row) (gone : List ℕ) → IsWellFormed rows
+            → MayFollow rows (Row.Respond op returned.now)
+            → IsBegun rows self.old.keys.numbers op begun → KeepsKeys (length rows) rows gone self.old
+            → KeepsKeys (length rows) (rows ++ Row.Respond op returned.now ∷ []) gone self.new) }
+    {
+        match returned.answered() {
+            None => self.end_write(op, begun),
+            Some(None) => self.end_read(op, begun, None),
+            Some(Some(value)) => self.end_read(op, begun, Some(value.as_str())),
+        }
+    }
+
+    /// The key takes the answer of the write.
+    fn end_write(&mut self, op: OpId, begun: Begun) -> Result<(), Memory>
+        requires may { (m : MayTake self.old (Row.Respond op answered.Written))
+            × IsBegun m.rows self.old.keys.numbers op begun }
+        requires small { self.old.place < 2 ^ 63 }
+        ensures calls { self.new.calls ≡ self.old.calls }
+        ensures numbers { self.new.keys.numbers ≡ self.old.keys.numbers }
+        ensures keys { OnOk result ((rows : List Row) (gone : List ℕ) → IsWellFormed rows
+            → MayFollow rows (Row.Respond op answered.Written)
+            → IsBegun rows self.old.keys.numbers op begun → KeepsKeys (length rows) rows gone self.old
+            → KeepsKeys (length rows) (rows ++ Row.Respond op answered.Written ∷ []) gone self.new) }
+    {
+        self.keys.end_write(begun.key, op, self.place)
+    }
+
+    /// The key takes the answer of the read, unless the read was given up.
+    fn end_read(&mut self, op: OpId, begun: Begun, value: Option<&str>) -> Result<(), Memory>
+        requires may { (m : MayTake self.old (Row.Respond op (answered.Value (option_copied value))))
+            × IsBegun m.rows self.old.keys.numbers op begun }
+        requires small { self.old.place < 2 ^ 63 }
+        ensures calls { self.new.calls ≡ self.old.calls }
+        ensures numbers { self.new.keys.numbers ≡ self.old.keys.numbers }
+        ensures keys { OnOk result ((rows : List Row) (gone : List ℕ) → IsWellFormed rows
+            → MayFollow rows (Row.Respond op (answered.Value (option_copied value.entry)))
+            → IsBegun rows self.old.keys.numbers op begun → KeepsKeys (length rows) rows gone self.old
+            → KeepsKeys (length rows) (rows ++ Row.Respond op (answered.Value (option_copied value.entry)) ∷ [])
+            gone self.new) }
+    {
+        match self.reads.remove(&begun.place) {
+            Some(number) => self.keys.end_read(number, begun.place, value, self.place),
+            None => self.keys.end_after_all(begun.key, op, self.place),
+        }
+    }
+
+    /// Ends the row: a read that was pending for so many rows is given up.
+    fn end_row(&mut self)
+        requires some { (rows : List Row) × (gone : List ℕ) × KeepsKeys self.old.place rows gone self.old }
+        requires small { self.old.place < 2 ^ 63 }
+        ensures calls { self.new.calls ≡ self.old.calls }
+        ensures numbers { self.new.keys.numbers ≡ self.old.keys.numbers }
+        ensures keys { (rows : List Row) (gone : List ℕ) → IsWellFormed rows
+            → length rows ≡ self.old.place + 1 → KeepsKeys self.old.place rows gone self.old
+            → (later : List ℕ) × KeepsKeys (length rows) rows later self.new }
+    {
+        let overdue = self.place.checked_sub(self.give_up);
+        self.place += 1;
+        if let Some(begin) = overdue {
+            self.give_up_at(begin);
+        }
+    }
+
+    /// The pending read that began there, if one did, is given up.
+    fn give_up_at(&mut self, begin: u64)
+        requires { (rows : List Row) × (gone : List ℕ) × HasMoved self.old.place rows gone self.old }
+        ensures calls { self.new.calls ≡ self.old.calls }
+        ensures numbers { self.new.keys.numbers ≡ self.old.keys.numbers }
+        ensures place { self.new.place ≡ self.old.place }
+        ensures keys { (rows : List Row) (gone : List ℕ) → IsWellFormed rows
+            → begin + self.old.give_up + 1 ≡ length rows → HasMoved (length rows) rows gone self.old
+            → (later : List ℕ) × KeepsKeys (length rows) rows later self.new }
+    {
+        if let Some(number) = self.reads.remove(&begin) {
+            self.keys.give_up(number, begin);
+        }
+    }
+}
