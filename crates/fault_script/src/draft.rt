@@ -12,7 +12,7 @@ use crate::lines::{LineJudgement, judge_lines};
 use crate::parse_line::{ConfigSoFar, Last, Said, says_after};
 use crate::shown::Shown;
 use crate::{LineFault, ScriptError};
-use line_files::Contents;
+use line_files::{Contents, Opens};
 use script_runs::{Command, NumberedCommand, Script};
 use std::alloc::Global;
 use tag::Memory;
@@ -91,14 +91,6 @@ impl Contents for Draft {
 
     ghost too_long = { TooLong };
 
-    fn opening(alloc: Global) -> Draft {
-        Draft {
-            opened: None,
-            commands: Vec::new(alloc),
-            count: 0,
-        }
-    }
-
     fn tools() {}
 
     fn context(&self) -> Option<()> {
@@ -166,4 +158,14 @@ impl Contents for Draft {
       counted = refl;
       faulty = is_long much;
     } };
+}
+
+impl Opens for Draft {
+    fn opening(alloc: Global) -> Draft {
+        Draft {
+            opened: None,
+            commands: Vec::new(alloc),
+            count: 0,
+        }
+    }
 }

@@ -23,6 +23,7 @@ pub mod Once
 pub mod OneOrder
 pub mod OneFault
 pub mod SharpFormats
+pub mod LongHistories
 pub mod RowsAcrossHalls
 pub mod RowsByHall
 pub mod WrittenHalls

@@ -15,6 +15,7 @@ pub mod Formats
 pub mod Files
 pub mod Readings
 pub mod HistoryFormat
+pub mod LongHistories
 pub mod HistoriesFormat
 pub mod HallStates
 pub mod OrderFormat

@@ -1,12 +1,12 @@
 //! Laws of the definitions, each the contract of a function that does nothing.
-ghost use Rattle.std.specs.Prelude.{ℕ, ◌≡◌, ◌≢◌, ◌↔◌, List, [], ◌∷◌, None, Ok, Result};
+ghost use Rattle.std.specs.Prelude.{ℕ, ◌≡◌, ◌≢◌, ◌≤◌, ◌↔◌, List, [], ◌∷◌, None, Ok, Result};
 ghost use Rattle.serde_json.specs.Data.{Data};
 ghost use Rattle.tag.specs.Limits.{call_limit};
 ghost use Rattle.recorder.specs.declared.row.Row.{Row};
 ghost use Rattle.recorder.specs.declared.order.KeyOrder.{KeyOrder};
-ghost use Rattle.recorder.specs.Histories.{Recorded};
+ghost use Rattle.recorder.specs.Histories.{Recorded, call_count};
 ghost use Rattle.file_format.specs.declared.fault.LineFault.{LineFault};
-ghost use Rattle.file_format.specs.declared.fault.LineFault.TheVariants.{Version};
+ghost use Rattle.file_format.specs.declared.fault.LineFault.TheVariants.{Version, TooManyCalls};
 ghost use Rattle.file_format.specs.CanonicalLines.{IsRowLine, IsHallRowLine, IsPieceLine};
 ghost use Rattle.file_format.specs.Lines.{LineShows};
 ghost use Rattle.file_format.specs.LineFaults.{FaultsAre, HasRowFault, HasHallRowFault};
@@ -15,6 +15,7 @@ ghost use Rattle.counted_devices.specs.FirstFaults.{FirstFaultInAll};
 ghost use Rattle.file_format.specs.Files.{file_rules};
 ghost use Rattle.file_format.specs.Readings.{Reads};
 ghost use Rattle.file_format.specs.HistoryFormat.{history_format, MakesHistory, IsHistory};
+ghost use Rattle.file_format.specs.LongHistories.{long_history_format, MakesRows};
 ghost use Rattle.file_format.specs.Headers.{header_in};
 ghost use Rattle.file_format.specs.FileHeaders.{file_header_in};
 ghost use Rattle.file_format.specs.HallRows.{hall_row_in};
@@ -128,6 +129,39 @@ pub fn a_history_is_read_from_its_text()
 pub fn a_text_is_read_as_its_history_alone()
     ensures { (rows : List Row) (history : Recorded) → IsHistory rows → AreRowsInRange rows
         → Reads history_format MakesHistory (history_text rows) history → history.rows ≡ rows }
+{}
+
+/// Where the rows begin at most 1,000,000 calls, bytes are read as their history exactly where they are read
+/// as a history of any length that has them.
+pub fn a_history_is_one_of_any_length()
+    ensures { (bytes : List ℕ) (rows : List Row) → call_count rows ≤ call_limit
+        → Reads history_format MakesHistory bytes (record { rows = rows; limit = call_limit })
+        ↔ Reads long_history_format MakesRows bytes rows }
+{}
+
+/// The first fault of a history file is its first fault as a history of any length too, where it isn't
+/// that of too many calls.
+pub fn a_fault_of_a_history_is_one_at_any_length()
+    ensures { (bytes : List ℕ) (n : ℕ) (fault : LineFault) → fault ≢ TooManyCalls
+        → FirstFaultInAll (file_rules history_format) bytes n fault
+        → FirstFaultInAll (file_rules long_history_format) bytes n fault }
+{}
+
+/// A history file of any length has one first fault.
+pub fn a_long_history_has_one_first_fault()
+    ensures { (bytes : List ℕ) (m n : ℕ) (a b : LineFault)
+        → FirstFaultInAll (file_rules long_history_format) bytes m a
+        → FirstFaultInAll (file_rules long_history_format) bytes n b → (m ≡ n) × (a ≡ b) }
+{}
+
+/// Bytes that are read as the rows of a history of any length have no fault, and are read as no others.
+pub fn bytes_are_read_as_the_same_rows()
+    ensures once { (bytes : List ℕ) (rows others : List Row)
+        → Reads long_history_format MakesRows bytes rows
+        → Reads long_history_format MakesRows bytes others → rows ≡ others }
+    ensures sound { (bytes : List ℕ) (rows : List Row) (n : ℕ) (fault : LineFault)
+        → Reads long_history_format MakesRows bytes rows
+        → FirstFaultInAll (file_rules long_history_format) bytes n fault → ⊥ }
 {}
 
 /// Bytes are read as one row of histories.

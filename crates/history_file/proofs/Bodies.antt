@@ -1,11 +1,12 @@
 -- Lines behind a header, one after another.
 use Rattle.std.proofs.Common.{ℕ, ◌≡◌, ◌<◌, ◌+◌, List, [], ◌∷◌, ◌++◌, Option, Some, Result, Ok, Err, length, sym, ap, ◌∙◌, subst, inr, arith, length-append}
-use Rattle.std.specs.Prelude.{option_map, IfOk, Vec}
+use Rattle.std.specs.Prelude.{option_map, IfOk, OnErr, Vec}
 use Rattle.std.specs.declared.alloc.Global.{Global}
 use Rattle.tag.specs.declared.memory.Memory.{Memory}
 use Rattle.counted_devices.specs.declared.judgement.Judgement.{Judgement}
 use Rattle.counted_devices.specs.Judgements.{ShowChunks}
 use Rattle.std.proofs.lemmas.Slice.Zip.{AllZip-long}
+use Rattle.counted_devices.specs.declared.read_fault.Stop.{Stop}
 use Rattle.counted_devices.specs.declared.read_fault.Stop.TheVariants as stop
 use Rattle.counted_devices.proofs.Zips.{AllZip-push_both}
 use Rattle.file_format.specs.declared.fault.LineFault.{LineFault}
@@ -13,7 +14,10 @@ use Rattle.file_format.specs.Faults.{LineStop}
 use Rattle.file_format.specs.Files.{IsLineOf, AreSpelled, HasFault, file_rules}
 use Rattle.file_format.specs.Formats.{Format, Follows}
 use Rattle.file_format.specs.Readings.{Reads}
-use Rattle.line_files.specs.Steps.{ReadsUnder}
+use Rattle.file_format.specs.Places.{FollowsAfter}
+use Rattle.recorder.specs.Histories.{Recorded}
+use Rattle.recorder.specs.declared.row.Row.{Row}
+use Rattle.line_files.specs.Steps.{ReadsUnder, StaysAtFault}
 use Rattle.history_file.specs.Beginnings.{TellsHeader, AreMade, HaveMade}
 use Rattle.history_file.specs.BodyLaws.{told_header}
 
@@ -47,11 +51,11 @@ module _ {Header Item Body : Type 0} (format : Format Header Item) (Makes : Head
   next_line : (lines : List (List ℕ)) (body : Body) (number : ℕ) (h : AreMade format Makes lines body) → number ≡ length lines + 1 → number ≡ length h.items + 2
   next_line lines body number h counted = omega (arith, counted, length-lines lines h.header h.items h.some h.read.spelled)
 
-  AreSpelled-push : (before : List (List ℕ)) (header : Header) (items : List Item) (line : List ℕ) (item : Item) → 0 < length before → AreSpelled format before header items → IsLineOf format header line item → AreSpelled format (before ++ line ∷ []) header (items ++ item ∷ [])
+  pub AreSpelled-push : (before : List (List ℕ)) (header : Header) (items : List Item) (line : List ℕ) (item : Item) → 0 < length before → AreSpelled format before header items → IsLineOf format header line item → AreSpelled format (before ++ line ∷ []) header (items ++ item ∷ [])
   AreSpelled-push [] header items line item some h l = absurd (omega (arith, some))
   AreSpelled-push (first ∷ lines) header items line item some h l = (h.0, AllZip-push_both (IsLineOf format header) lines items line item h.1 l)
 
-  item_fault : (before : List (List ℕ)) (header : Header) (items : List Item) (line : List ℕ) (item : Item) (fault : LineFault) → 0 < length before → IsLineOf format header line item → format.HasFault header items item fault → HasFault format before header items line fault
+  pub item_fault : (before : List (List ℕ)) (header : Header) (items : List Item) (line : List ℕ) (item : Item) (fault : LineFault) → 0 < length before → IsLineOf format header line item → format.HasFault header items item fault → HasFault format before header items line fault
   item_fault [] header items line item fault some l h = absurd (omega (arith, some))
   item_fault (first ∷ lines) header items line item fault some l h = inr (item, l, h)
 
@@ -92,3 +96,35 @@ module _ {Header Item Body : Type 0} (format : Format Header Item) (Makes : Head
         let own : AreMade format Makes before old = subst (HaveMade format Makes before) was h in
         let told_so : option_map told (Some old) ≡ Some under = subst (λ (o : Option Body). option_map told o ≡ Some under) was e in
         stepped body file is own told_so l result (follows own.header own.items own.made own.read.fits (next_line before old number own counted))
+
+-- what a refusal left as it was is made of the same items
+pub kept_unchanged : {L Contents : Type 0} (IsMade : Contents → Type 0) (result : Result (Unit {0}) (Stop L)) (old new : Contents)
+    → OnErr result (new ≡ old) → IsMade old → StaysAtFault IsMade result new
+kept_unchanged IsMade (Ok done) old new same made = tt
+kept_unchanged IsMade (Err (stop.Fault fault)) old new same made = subst IsMade (sym same) made
+kept_unchanged IsMade (Err stop.Memory) old new same made = tt
+
+-- a row that a history refuses leaves it as it was
+pub refusal_keeps : (calls : ℕ) (old : Recorded) (row : Row) (result : Result (Unit {0}) LineStop) (new : Recorded)
+    → FollowsAfter calls old row result new → OnErr result (new ≡ old)
+refusal_keeps calls old row (Ok done) new h = tt
+refusal_keeps calls old row (Err (stop.Fault fault)) new h = h.1
+refusal_keeps calls old row (Err stop.Memory) new h = h.1
+
+module _ {Header Item Body : Type 0} (format : Format Header Item) (Makes : Header → List Item → Body
+    → Type 0) (before : List (List ℕ)) (old new : Body) where
+  kept_so : {File : Type 0} (body : File → Option Body) (file : File) → body file ≡ Some new → (h : AreMade format Makes before old)
+      → (result : Result (Unit {0}) LineStop) → StaysAtFault (Makes h.header h.items) result new
+      → StaysAtFault (λ (f : File). HaveMade format Makes before (body f)) result file
+  kept_so body file is h (Ok done) kept = tt
+  kept_so body file is h (Err (stop.Fault fault)) kept = subst (HaveMade format Makes before) (sym is) (record { some = h.some; header = h.header; items = h.items; read = h.read; made = kept })
+  kept_so body file is h (Err stop.Memory) kept = tt
+
+  -- an item with a fault leaves what the lines before it made
+  pub kept_behind : {File : Type 0} (body : File → Option Body) (file : File) → body file ≡ Some new → (made : Option Body)
+      → made ≡ Some old → HaveMade format Makes before made → (result : Result (Unit {0}) LineStop)
+      → ((header : Header) (items : List Item) → Makes header items old → format.Admits header items
+      → StaysAtFault (Makes header items) result new) → StaysAtFault (λ (f : File). HaveMade format Makes before (body f)) result file
+  kept_behind body file is made was h result kept =
+      let own : AreMade format Makes before old = subst (HaveMade format Makes before) was h in
+      kept_so body file is own result (kept own.header own.items own.made own.read.fits)

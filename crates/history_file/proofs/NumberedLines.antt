@@ -1,6 +1,8 @@
 -- The lines of the rows of each hall: what one row more makes of them, and which row stands on each.
 use Rattle.std.proofs.Common.{ℕ, zero, suc, ◌≡◌, ◌≢◌, ◌<◌, ◌+◌, ◌-◌, List, [], ◌∷◌, ◌++◌, Bool, true, false, cond, Some, Err, length, set, map, get_or, nat_eq, refl, sym, ap, ap₂, ◌∙◌, subst, inl, inr, arith, append-nil, eq-eqb, eqb-true}
-use Rattle.std.specs.Prelude.{Option, IsSomeAnd, MatchOption}
+use Rattle.std.specs.Prelude.{Option, IsSomeAnd, MatchOption, Vec}
+use Rattle.std.specs.declared.alloc.Global.{Global}
+use Rattle.line_files.specs.Steps.{StaysAtFault}
 use Rattle.std.specs.List.{All, slice_get, filter, enumerate_from, range_with_len}
 use Rattle.std.proofs.lemmas.Bool.{ne_eqb}
 use Rattle.std.proofs.lemmas.List.{map-append, length-set}
@@ -107,6 +109,11 @@ AreLinesByHall-none header lists count empty = record {
 pub stops_too : (header : FileHeader) (items : List HallRow) (item : HallRow) (stop : LineStop) (halls : RecordedHalls) (numbered : NumberedHalls) → Follows histories_format MakesHistories header items item (Err stop) halls → Follows histories_format MakesNumberedHalls header items item (Err stop) numbered
 stops_too header items item (stops.Fault fault) halls numbered h = h
 stops_too header items item stops.Memory halls numbered h = tt
+
+pub kept_too : (header : FileHeader) (items : List HallRow) (old : RecordedHalls) (lines : Vec (List ℕ) Global) (stop : LineStop) (new : RecordedHalls) → MakesNumberedHalls header items (record { halls = old; lines = lines }) → new ≡ old
+    → StaysAtFault (MakesNumberedHalls header items) (Err stop) (record { halls = new; lines = lines })
+kept_too header items old lines (stops.Fault fault) new made same = subst (λ (halls : RecordedHalls). MakesNumberedHalls header items (record { halls = halls; lines = lines })) (sym same) made
+kept_too header items old lines stops.Memory new made same = tt
 
 -- ---- which row stands on a line
 

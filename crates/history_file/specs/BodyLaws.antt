@@ -23,14 +23,14 @@ module _ {Header Item : Type 0} (format : Format Header Item) where
   }
 
   -- a later line that shows a fault has it
-  later_fault : (lines : List (List ℕ)) (header : Header) (items : List Item) (line : List ℕ)
+  pub later_fault : (lines : List (List ℕ)) (header : Header) (items : List Item) (line : List ℕ)
       (fault : LineFault) → 0 < length lines → LineShows (format.meaning header) line (Err fault)
       → HasFault format lines header items line fault
   later_fault [] header items line fault some shown = absurd (omega (arith, some))
   later_fault (first ∷ lines) header items line fault some shown = inl shown
 
   -- a line that is too long has that fault, the first one or a later
-  long_fault : (lines : List (List ℕ)) (header : Header) (items : List Item) (line : List ℕ)
+  pub long_fault : (lines : List (List ℕ)) (header : Header) (items : List Item) (line : List ℕ)
       → longest_line < length line → HasFault format lines header items line TooLong
   long_fault [] header items line long = long
   long_fault (first ∷ lines) header items line long = inl long

@@ -4,3 +4,5 @@ pub mod BodyLaws
 pub mod Openings
 pub mod Making
 pub mod NumberedRows
+pub mod TakenRows
+pub mod TakenLaws

@@ -9,6 +9,7 @@ use Rattle.file_format.specs.declared.hall_row.HallRow.{HallRow}
 use Rattle.file_format.specs.FileHeaders.{halls_in, quorums_in, header_with}
 use Rattle.file_format.specs.HistoriesFormat.{histories_format, AreHistories, MakesHistories}
 use Rattle.file_format.specs.HistoryFormat.{history_format, IsHistory}
+use Rattle.file_format.specs.LongHistories.{long_history_format}
 use Rattle.file_format.specs.OrderFormat.{order_format, AreFew}
 use Rattle.history_file.specs.Beginnings.{CanBegin}
 
@@ -17,6 +18,9 @@ no_rows = record { formed = λ k row at. absurd (cc); few = omega arith }
 
 pub history_opens : CanBegin history_format
 history_opens = record { header = tt; fits = no_rows }
+
+pub long_history_opens : CanBegin long_history_format
+long_history_opens = record { header = tt; fits = no_rows.formed }
 
 no_rows_by_hall : AreHistories Version1 []
 no_rows_by_hall = record {

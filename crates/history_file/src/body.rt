@@ -2,6 +2,7 @@
 ghost use Rattle.std.specs.Prelude.{◌≡◌, ◌+◌, List, ℕ, length};
 ghost use Rattle.file_format.specs.Formats.{Format, Follows};
 ghost use Rattle.file_format.specs.Readings.{Reads};
+ghost use Rattle.line_files.specs.Steps.{StaysAtFault};
 ghost use Rattle.history_file.specs.Beginnings.{BeginsFile, CanBegin, TellsHeader};
 
 use file_format::{LineItem, Stop};
@@ -35,11 +36,16 @@ pub trait Body: Drop + Send {
     fn header(&self) -> Self::Header
         ensures { result ≡ told self.now };
 
-    /// Adds the next item, which stands on that line, or says which fault it has after the others.
+    /// Adds the next item, which stands on that line, or says which fault it has after the others. An
+    /// item with a fault isn't added.
     fn follow(&mut self, line: u64, item: Self::Item) -> Result<(), Stop>
-        ensures { (header : Self.Header) (items : List Self.Item) → Makes header items self.old
+        ensures follows { (header : Self.Header) (items : List Self.Item)
+            → Makes header items self.old
             → format.Admits header items → line ≡ length items + 2
-            → Follows format Makes header items item result self.new };
+            → Follows format Makes header items item result self.new }
+        ensures kept { (header : Self.Header) (items : List Self.Item)
+            → Makes header items self.old → format.Admits header items
+            → StaysAtFault (Makes header items) result self.new };
 
     /// What the body of a whole file is.
     fn whole(self) -> Self::Whole

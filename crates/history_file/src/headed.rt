@@ -9,8 +9,8 @@ ghost use Rattle.history_file.specs.BodyLaws.{made_sound, made_faulty, made_long
 use crate::body::Body;
 use crate::tool_sets::ToolSets;
 use counted_devices::Judgement;
-use file_format::{FaultKind, FileFault, LineFault, LineTools, Stop, judge_with};
-use line_files::Contents;
+use file_format::{FaultKind, FileFault, LineFault, Stop};
+use line_files::{Contents, Opens};
 use std::alloc::Global;
 use tag::Memory;
 
@@ -43,10 +43,6 @@ impl<B: Body> Contents for Headed<B> {
 
     ghost too_long = { TooLong };
 
-    fn opening(_alloc: Global) -> Headed<B> {
-        Headed { body: None }
-    }
-
     fn tools() -> ToolSets {
         ToolSets::new()
     }
@@ -67,26 +63,13 @@ impl<B: Body> Contents for Headed<B> {
         Ok(())
     }
 
-    /// Takes one of the sets of tools that no other thread has, and makes one of its own where all are
-    /// taken.
     fn judge_chunk(
         alloc: Global,
         under: B::Header,
         tools: &ToolSets,
         chunk: &[u8],
     ) -> Result<Vec<Judgement<B::Item, LineFault>>, Memory> {
-        for set in &tools.sets {
-            if let Some(mut free) = set.try_write() {
-                let mut own = match free.take() {
-                    Some(own) => own,
-                    None => LineTools::new(alloc)?,
-                };
-                let run = judge_with::<B::Item>(alloc, under, &mut own, chunk);
-                *free = Some(own);
-                return run;
-            }
-        }
-        judge_with::<B::Item>(alloc, under, &mut LineTools::new(alloc)?, chunk)
+        tools.judge::<B::Item>(alloc, under, chunk)
     }
 
     fn follow(&mut self, line: u64, item: B::Item) -> Result<(), Stop> {
@@ -113,4 +96,10 @@ impl<B: Body> Contents for Headed<B> {
 
     ghost long = { λ lines file line h long.
         made_long B.format B.Makes B.opens lines file.body line h long };
+}
+
+impl<B: Body> Opens for Headed<B> {
+    fn opening(_alloc: Global) -> Headed<B> {
+        Headed { body: None }
+    }
 }

@@ -16,8 +16,10 @@ pub mod laws;
 mod numbered_format;
 mod order_format;
 mod reading;
+mod taken_rows;
 mod tool_sets;
 
-pub use feeds::{HistoriesFeed, HistoryFeed, OrderFeed};
+pub use feeds::{HistoriesFeed, HistoryFeed, OrderFeed, RowsFeed};
 pub use numbered_format::NumberedHistories;
 pub use reading::{read_histories, read_history, read_numbered_histories, read_orders};
+pub use taken_rows::LongHistory;

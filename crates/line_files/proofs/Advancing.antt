@@ -9,14 +9,16 @@ use Rattle.counted_devices.specs.declared.read_fault.FaultKind.{FaultKind}
 use Rattle.counted_devices.specs.Cuts.{with_end, Splits, Divides, HasNoEnd}
 use Rattle.counted_devices.specs.FirstFaults.{LineRules, IsFirstFault, IsFirstOfKind, FirstFaultSoFar, FaultSoFar, faults_by}
 use Rattle.counted_devices.specs.Judgements.{ShowsItem, ShowChunks}
+use Rattle.counted_devices.specs.ReadFaults.{IsFaultBy}
 use Rattle.counted_devices.proofs.CutLemmas.{Splits-join, Splits-room, Splits-none, Splits-rest, behind, cut_at, cut_of}
 use Rattle.counted_devices.proofs.FaultKinds.{of_line}
 use Rattle.line_files.specs.declared.judged_lines.JudgedLines.{JudgedLines}
 use Rattle.line_files.specs.declared.progress.Progress.{Progress}
 use Rattle.line_files.specs.Ahead.{IsJudged, AreReadOrJudged}
-use Rattle.line_files.specs.LinesRead.{ShownUnder, HasRead, ReadsShown, AreRead, HasReadFront}
+use Rattle.line_files.specs.LinesRead.{ShownUnder, HasRead, ReadsShown, AreRead, HasReadFront, AreReadBefore, HasReadBefore}
 use Rattle.line_files.proofs.LineByLine.{IsFirstFault-more, IsFirstOfKind-more, first_after, none_shown}
 use Rattle.line_files.proofs.Ends.{line_ended}
+use Rattle.line_files.proofs.Leaving.{leaves_before}
 
 module _ {L : Type 0} (rules : LineRules L) where
   with_more : (b : Bool) (lines : List (List ℕ)) (rest : List ℕ) (number : ℕ) (fault : L) → IsFirstFault rules lines number fault → IsFirstFault rules (cond b (lines ++ rest ∷ []) lines) number fault
@@ -77,6 +79,12 @@ module _ {Contents : Type 0} (Reads : List (List ℕ) → Contents → Type 0) (
   first_stops rules number k h =
       let P : List ℕ → Type 0 = λ xs. FaultSoFar (faults_by rules) xs number k in
       subst P whole (stays rules (bytes ++ (take end block ++ 10 ∷ [])) (r.lines ++ line ∷ []) [] number k ended h (behind block end))
+
+  -- and the lines before it were read
+  pub first_leaves : {L : Type 0} (number : ℕ) (k : FaultKind L) (contents : Contents) → IsFaultBy (λ _. AreReadBefore Reads (r.lines ++ line ∷ []) number contents) ⊥ k → IsFaultBy (λ _. HasReadBefore Reads (bytes ++ block) number contents) ⊥ k
+  first_leaves number k contents h =
+      let P : List ℕ → Type 0 = λ xs. IsFaultBy (λ _. HasReadBefore Reads xs number contents) ⊥ k in
+      subst P whole (leaves_before Reads (bytes ++ (take end block ++ 10 ∷ [])) (r.lines ++ line ∷ []) [] number k contents ended h (behind block end))
 
 module _ {L Item Context : Type 0} (Shows : Context → List ℕ → Result Item L → Type 0) where
   -- bytes without an end have no whole line

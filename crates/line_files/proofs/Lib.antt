@@ -1,5 +1,6 @@
 pub mod SideBySide
 pub mod LineByLine
+pub mod Leaving
 pub mod Ends
 pub mod FeedLemmas
 pub mod Advancing

@@ -36,7 +36,7 @@ module _ {L : Type 0} (rules : LineRules L) where
   IsFirstOfKind-more lines more number k h = of_line (IsFirstFault rules lines number) (IsFirstFault rules (lines ++ more) number) ⊥ k (λ fault first. IsFirstFault-more lines more number fault first) h
 
 -- a list with an item isn't empty
-never_empty : {X : Type 0} (x : X) (xs : List X) → x ∷ xs ≡ [] → ⊥
+pub never_empty : {X : Type 0} (x : X) (xs : List X) → x ∷ xs ≡ [] → ⊥
 never_empty x xs e = suc-ne-zero (length xs) (ap length e)
 
 module _ {Contents : Type 0} (Reads : List (List ℕ) → Contents → Type 0) where
@@ -60,14 +60,14 @@ module _ {L Item Context : Type 0} (Shows : Context → List ℕ → Result Item
   shows_none (Some under) (line ∷ lines) shown = absurd shown
 
   -- lines whose first show that, and those after them the others
-  record Parts (o : Option Context) (lines : List (List ℕ)) (js more : List (Judgement Item L)) : Type 0 where
+  pub record Parts (o : Option Context) (lines : List (List ℕ)) (js more : List (Judgement Item L)) : Type 0 where
     pub front : List (List ℕ)
     pub back : List (List ℕ)
     pub whole : lines ≡ front ++ back
     pub first : ShownUnder Shows o front js
     pub second : ShownUnder Shows o back more
 
-  parts : (o : Option Context) (lines : List (List ℕ)) (js more : List (Judgement Item L)) → ShownUnder Shows o lines (js ++ more) → Parts o lines js more
+  pub parts : (o : Option Context) (lines : List (List ℕ)) (js more : List (Judgement Item L)) → ShownUnder Shows o lines (js ++ more) → Parts o lines js more
   parts None lines [] more shown = record { front = []; back = lines; whole = refl; first = (refl, refl); second = shown }
   parts None lines (j ∷ js) more shown = absurd (never_empty j (js ++ more) shown.1)
   parts (Some under) lines js more shown =

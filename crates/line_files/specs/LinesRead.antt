@@ -1,11 +1,12 @@
 -- How far the lines of a file were read, and the first fault among them.
 use Rattle.std.specs.Prelude.{ℕ, ◌≡◌, ◌≤◌, List, [], ◌∷◌, ◌++◌, length, Option, Some, None, Result}
-use Rattle.std.specs.Prelude.{MatchResult, Vec}
+use Rattle.std.specs.Prelude.{◌+◌, MatchResult, IfErr, Vec}
 use Rattle.std.specs.List.{AllZip}
 use Rattle.std.specs.declared.alloc.Global.{Global}
 use Rattle.counted_devices.specs.Cuts.{Splits, longest_line}
 use Rattle.counted_devices.specs.FirstFaults.{LineRules, FaultSoFar, IsFirstOfKind, faults_by}
 use Rattle.counted_devices.specs.Judgements.{ShowsItem}
+use Rattle.counted_devices.specs.ReadFaults.{IsFaultBy}
 use Rattle.counted_devices.specs.declared.judgement.Judgement.{Judgement}
 use Rattle.counted_devices.specs.declared.read_fault.ReadFault.{ReadFault}
 use Rattle.line_files.specs.declared.progress.Progress.{Progress}
@@ -34,6 +35,51 @@ module _ {Contents : Type 0} (Reads : List (List ℕ) → Contents → Type 0) w
     pub read : List ℕ
     pub whole : read ++ left ≡ bytes
     pub at : AreRead read progress rest
+
+  -- of the lines those before that number were read, and no others
+  pub record AreReadBefore (lines : List (List ℕ)) (number : ℕ) (contents : Contents) : Type 0
+    where
+      pub earlier : List (List ℕ)
+      pub later : List (List ℕ)
+      pub whole : lines ≡ earlier ++ later
+      pub counted : number ≡ length earlier + 1
+      pub made : Reads earlier contents
+
+  -- the same of the lines of the bytes
+  pub record HasReadBefore (bytes : List ℕ) (number : ℕ) (contents : Contents) : Type 0 where
+    pub lines : List (List ℕ)
+    pub rest : List ℕ
+    pub splits : Splits bytes lines rest
+    pub at : AreReadBefore lines number contents
+
+  module _ {L X : Type 0} where
+    -- where a line has a fault, the lines before it were read
+    abbrev pub LeavesRead : List (List ℕ) → Result X (ReadFault L) → Contents → Type 0
+    LeavesRead lines result contents = IfErr result
+        (λ fault. IsFaultBy (λ _. AreReadBefore lines fault.line contents) ⊥ fault.kind)
+
+    -- the same of a line of the bytes
+    abbrev pub LeavesReadIn : List ℕ → Result X (ReadFault L) → Contents → Type 0
+    LeavesReadIn bytes result contents = IfErr result
+        (λ fault. IsFaultBy (λ _. HasReadBefore bytes fault.line contents) ⊥ fault.kind)
+
+  module _ {L X Item Context : Type 0} (context : Contents → Option Context)
+      (Shows : Context → List ℕ → Result Item L → Type 0) where
+    -- the same of a line after those that were read, by what it shows
+    abbrev pub LeavesJudged : Progress Contents → Judgement Item L → Result X (ReadFault L)
+        → Progress Contents → Type 0
+    LeavesJudged old judgement result new = (under : Context) (line : List ℕ)
+        → context old.contents ≡ Some under → ShowsItem (Shows under) line judgement
+        → (before : List (List ℕ)) → HasRead before old
+        → LeavesRead (before ++ line ∷ []) result new.contents
+
+    -- the same of lines, by what they show
+    abbrev pub LeavesShown : Progress Contents → List (Judgement Item L)
+        → Result X (ReadFault L) → Progress Contents → Type 0
+    LeavesShown old judgements result new = (lines : List (List ℕ))
+        → ShownUnder Shows (context old.contents) lines judgements
+        → (before : List (List ℕ)) → HasRead before old
+        → LeavesRead (before ++ lines) result new.contents
 
   module _ {L : Type 0} (rules : LineRules L) where
     -- the next line is read, or the first fault of all is answered

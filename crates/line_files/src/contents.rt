@@ -4,7 +4,7 @@ ghost use Rattle.std.specs.Prelude.{Result, Ok, Err, IfOk, IsSome, OnOk};
 ghost use Rattle.counted_devices.specs.Cuts.{Splits, last_lines, longest_line};
 ghost use Rattle.counted_devices.specs.FirstFaults.{LineRules, FileAnswers, faults_by};
 ghost use Rattle.counted_devices.specs.Judgements.{ShowChunks};
-ghost use Rattle.line_files.specs.Steps.{ReadsBy, ReadsUnder};
+ghost use Rattle.line_files.specs.Steps.{ReadsBy, ReadsUnder, StaysAtFault};
 
 use counted_devices::{Judgement, ReadFault, Stop};
 use std::alloc::Global;
@@ -39,12 +39,6 @@ pub trait Contents: Drop + Send {
 
     ghost too_long: { Self.Fault };
 
-    /// What stands here before the first line.
-    fn opening(alloc: Global) -> Self
-    where
-        Self: Sized,
-        ensures { Reads [] result };
-
     /// Nothing is kept yet.
     fn tools() -> Self::Tools;
 
@@ -60,6 +54,8 @@ pub trait Contents: Drop + Send {
     fn begin(&mut self, alloc: Global, line: &[u8]) -> Result<(), Stop<Self::Fault>>
         ensures read { context self.old ≡ None → (before : List (List ℕ)) → Reads before self.old
             → ReadsBy rules Reads before line.now result self.new }
+        ensures kept { (before : List (List ℕ)) → Reads before self.old
+            → StaysAtFault (Reads before) result self.new }
         ensures begun { OnOk result (IsSome (context self.new)) };
 
     /// What the lines of a chunk, the last of them without its end, show under that context.
@@ -72,12 +68,14 @@ pub trait Contents: Drop + Send {
         ensures { IfOk result (λ run. ShowChunks (Shows under) (chunk.now ∷ []) run.items) };
 
     /// Adds the next line's item, or says which fault the line has after the others. The context stays
-    /// the same.
+    /// the same. A line with a fault adds nothing.
     fn follow(&mut self, line: u64, item: Self::Item) -> Result<(), Stop<Self::Fault>>
-        ensures { (before : List (List ℕ)) (text : List ℕ) (under : Self.Context)
+        ensures read { (before : List (List ℕ)) (text : List ℕ) (under : Self.Context)
             → Reads before self.old → context self.old ≡ Some under → Shows under text (Ok item)
             → line ≡ length before + 1
-            → ReadsUnder rules Reads context under before text result self.new };
+            → ReadsUnder rules Reads context under before text result self.new }
+        ensures kept { (before : List (List ℕ)) → Reads before self.old
+            → StaysAtFault (Reads before) result self.new };
 
     /// What the contents of a whole file are.
     fn whole(self) -> Result<Self::Whole, ReadFault<Self::Fault>>
@@ -96,4 +94,13 @@ pub trait Contents: Drop + Send {
 
     ghost long: { (lines : List (List ℕ)) (contents : Self) (line : List ℕ) → Reads lines contents
         → longest_line < length line → rules.HasFault lines line too_long };
+}
+
+/// Contents that no line has made, of which a file may have any.
+pub trait Opens: Contents {
+    /// What stands here before the first line.
+    fn opening(alloc: Global) -> Self
+    where
+        Self: Sized,
+        ensures { Self.Reads [] result };
 }

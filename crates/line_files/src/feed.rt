@@ -23,16 +23,15 @@ pub struct Feed<C, L> {
 impl<C: Contents> Feed<C, C::Fault> {
     ghost use Rattle.counted_devices.specs.FirstFaults.{FileAnswers, faults_by};
     ghost use Rattle.line_files.specs.Feeds.{FeedsOn, StandsForLines};
+    ghost use Rattle.line_files.specs.LinesRead.{LeavesReadIn};
 
-    /// No byte yet.
-    pub(crate) fn new(alloc: Global) -> Feed<C, C::Fault>
+    /// No byte yet, and contents that no line has made.
+    pub(crate) fn of(alloc: Global, contents: C) -> Feed<C, C::Fault>
+        requires { C.Reads [] contents }
         ensures { StandsForLines C.Reads [] result }
     {
         Feed {
-            progress: Progress {
-                contents: C::opening(alloc),
-                lines: 0,
-            },
+            progress: Progress { contents, lines: 0 },
             rest: Vec::new(alloc),
             fed: 0,
             fault: None,
@@ -55,6 +54,8 @@ impl<C: Contents> Feed<C, C::Fault> {
     ) -> Result<(), ReadFault<C::Fault>>
         requires { self.old.fed + length block.now ≤ 2 ^ 62 }
         ensures fed { FeedsOn C.Reads C.rules self.old block.now result self.new }
+        ensures before { (bytes : List ℕ) → StandsForLines C.Reads bytes self.old
+            → LeavesReadIn C.Reads (bytes ++ block.now) result self.new.progress.contents }
         ensures count { MatchResult result (λ _. self.new.fed ≡ self.old.fed + length block.now)
             (λ _. self.new.fed ≡ self.old.fed) }
         ensures sound { IfOk result (λ _. self.new.fault ≡ None) }

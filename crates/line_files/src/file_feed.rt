@@ -1,9 +1,10 @@
 //! Files that come in blocks, as their callers see them.
-ghost use Rattle.std.specs.Prelude.{ℕ, ◌≡◌, ◌≤◌, ◌+◌, ◌^◌, List, [], None, Some, length, IfErr, MatchResult};
+ghost use Rattle.std.specs.Prelude.{ℕ, ◌≡◌, ◌≤◌, ◌+◌, ◌^◌, ◌++◌, List, [], None, Some, length, IfErr, MatchResult};
 ghost use Rattle.counted_devices.specs.FirstFaults.{FileAnswers, faults_by};
 ghost use Rattle.line_files.specs.Feeds.{FeedsOn, StandsForLines};
+ghost use Rattle.line_files.specs.LinesRead.{LeavesReadIn};
 
-use crate::contents::Contents;
+use crate::contents::{Contents, Opens};
 use crate::feed::Feed;
 use counted_devices::ReadFault;
 use std::alloc::Global;
@@ -25,13 +26,23 @@ impl<C: Contents> Model for FileFeed<C> {
     ghost view = { λ whole. whole.feed };
 }
 
-impl<C: Contents> FileFeed<C> {
+impl<C: Opens> FileFeed<C> {
     /// No byte yet.
     pub fn new(alloc: Global) -> FileFeed<C>
         ensures { StandsForLines C.Reads [] result }
     {
+        FileFeed::of(alloc, C::opening(alloc))
+    }
+}
+
+impl<C: Contents> FileFeed<C> {
+    /// No byte yet, and contents that no line has made.
+    pub fn of(alloc: Global, contents: C) -> FileFeed<C>
+        requires { C.Reads [] contents }
+        ensures { StandsForLines C.Reads [] result }
+    {
         FileFeed {
-            feed: Feed::new(alloc),
+            feed: Feed::of(alloc, contents),
             tools: C::tools(),
         }
     }
@@ -51,8 +62,16 @@ impl<C: Contents> FileFeed<C> {
         self.feed.line()
     }
 
+    /// What the whole lines so far made, or the lines before the one with a fault.
+    pub fn contents(&self) -> &C
+        ensures { result.now ≡ self.now.progress.contents }
+    {
+        &self.feed.progress.contents
+    }
+
     /// Reads the next block, however the file was cut. The first fault of the bytes so far is
-    /// answered, and then by each later call; `Memory` comes only where an allocation was refused.
+    /// answered, and then by each later call; `Memory` comes only where an allocation was refused. Where
+    /// a line has a fault, the contents are what the lines before it made.
     pub fn feed(
         &mut self,
         rt: &(impl Threads + Sync),
@@ -60,6 +79,8 @@ impl<C: Contents> FileFeed<C> {
     ) -> Result<(), ReadFault<C::Fault>>
         requires { self.old.fed + length block.now ≤ 2 ^ 62 }
         ensures fed { FeedsOn C.Reads C.rules self.old block.now result self.new }
+        ensures before { (bytes : List ℕ) → StandsForLines C.Reads bytes self.old
+            → LeavesReadIn C.Reads (bytes ++ block.now) result self.new.progress.contents }
         ensures count { MatchResult result (λ _. self.new.fed ≡ self.old.fed + length block.now)
             (λ _. self.new.fed ≡ self.old.fed) }
         ensures kept { IfErr result (λ fault. self.new.fault ≡ Some fault) }

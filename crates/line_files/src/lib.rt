@@ -17,6 +17,6 @@ mod progress;
 mod reading;
 mod side_by_side;
 
-pub use contents::Contents;
+pub use contents::{Contents, Opens};
 pub use file_feed::FileFeed;
 pub use reading::read_file;

@@ -1,11 +1,12 @@
 //! How far the lines of a file were read.
-ghost use Rattle.std.specs.Prelude.{ℕ, ◌≡◌, ◌<◌, ◌≤◌, ◌+◌, ◌^◌, ◌++◌, List, None, length};
+ghost use Rattle.std.specs.Prelude.{ℕ, ◌≡◌, ◌<◌, ◌≤◌, ◌+◌, ◌^◌, ◌∷◌, ◌++◌, List, [], None, length};
 ghost use Rattle.std.specs.Prelude.{IfOk, IfErr, IsSome, OnOk, MatchResult};
 ghost use Rattle.counted_devices.specs.Cuts.{HasNoEnd, longest_line};
 ghost use Rattle.counted_devices.specs.FirstFaults.{FaultSoFar, faults_by};
 ghost use Rattle.line_files.specs.Ahead.{AreReadOrJudged, FaultStays};
 ghost use Rattle.line_files.specs.LinesRead.{ReadsJudged, ReadsNext, ReadsShown};
-ghost use Rattle.line_files.specs.LinesRead.{AreRead, HasReadFront, ReadsBytes};
+ghost use Rattle.line_files.specs.LinesRead.{AreRead, HasRead, HasReadFront, ReadsBytes};
+ghost use Rattle.line_files.specs.LinesRead.{LeavesRead, LeavesReadIn, LeavesJudged, LeavesShown};
 
 use crate::contents::Contents;
 use crate::judge_blocks::judge_block;
@@ -28,6 +29,8 @@ impl<C: Contents> Progress<C> {
         requires few { self.old.lines < 2 ^ 63 }
         requires none { C.context self.old.contents ≡ None }
         ensures read { ReadsNext C.Reads C.rules self.old line.now result (λ _. self.new) }
+        ensures before { (before : List (List ℕ)) → HasRead C.Reads before self.old
+            → LeavesRead C.Reads (before ++ line.now ∷ []) result self.new.contents }
         ensures begun { OnOk result (IsSome (C.context self.new.contents)) }
         ensures lines { OnOk result (self.new.lines ≡ self.old.lines + 1) }
     {
@@ -49,6 +52,7 @@ impl<C: Contents> Progress<C> {
         requires { self.old.lines < 2 ^ 63 }
         ensures read { ReadsJudged C.Reads C.rules C.context C.Shows self.old judgement result
             (λ _. self.new) }
+        ensures before { LeavesJudged C.Reads C.context C.Shows self.old judgement result self.new }
         ensures lines { OnOk result (self.new.lines ≡ self.old.lines + 1) }
     {
         let line = self.lines + 1;
@@ -72,6 +76,7 @@ impl<C: Contents> Progress<C> {
         requires { self.old.lines + length run.items < 2 ^ 63 }
         ensures read { ReadsShown C.Reads C.rules C.context C.Shows self.old run.items result
             (λ _. self.new) }
+        ensures before { LeavesShown C.Reads C.context C.Shows self.old run.items result self.new }
         ensures lines { OnOk result (self.new.lines ≡ self.old.lines + length run.items) }
     {
         for judgement in run {
@@ -88,6 +93,7 @@ impl<C: Contents> Progress<C> {
         requires { self.old.lines + length judgements < 2 ^ 63 }
         ensures read { ReadsShown C.Reads C.rules C.context C.Shows self.old judgements result
             (λ _. self.new) }
+        ensures before { LeavesShown C.Reads C.context C.Shows self.old judgements result self.new }
         ensures lines { OnOk result (self.new.lines ≡ self.old.lines + length judgements) }
     {
         for run in judgements.into_runs() {
@@ -124,6 +130,9 @@ impl<C: Contents> Progress<C> {
             → AreReadOrJudged C.Reads C.context C.Shows bytes self.old judged
             → length judged.rest.items ≤ longest_line
             → IfErr result (λ fault. FaultStays C.rules bytes fault) }
+        ensures before { (bytes : List ℕ)
+            → AreReadOrJudged C.Reads C.context C.Shows bytes self.old judged
+            → LeavesReadIn C.Reads bytes result self.new.contents }
         ensures lines { IfOk result (λ rest. self.new.lines + length rest.items
             ≡ self.old.lines + length judged.judgements + length judged.rest.items) }
     {
@@ -147,6 +156,8 @@ impl<C: Contents> Progress<C> {
             left.now self.new rest.new.items)
             (λ fault. FaultSoFar (faults_by C.rules) (bytes ++ block.now)
             fault.line fault.kind) }
+        ensures before { (bytes : List ℕ) → AreRead C.Reads bytes self.old rest.old.items
+            → LeavesReadIn C.Reads (bytes ++ block.now) result self.new.contents }
         ensures begun { IfOk result (λ left. C.context self.new.contents ≡ None → HasNoEnd left.now) }
         ensures room { IfOk result (λ left. self.new.lines + length rest.new.items + length left.now
             ≤ self.old.lines + length rest.old.items + length block.now) }
@@ -176,6 +187,8 @@ impl<C: Contents> Progress<C> {
         requires { self.old.lines + length rest.items + length block.now < 2 ^ 63 }
         ensures reads { (bytes : List ℕ) → AreRead C.Reads bytes self.old rest.items
             → ReadsBytes C.Reads C.rules (bytes ++ block.now) result self.new }
+        ensures before { (bytes : List ℕ) → AreRead C.Reads bytes self.old rest.items
+            → LeavesReadIn C.Reads (bytes ++ block.now) result self.new.contents }
         ensures lines { IfOk result (λ left. self.new.lines + length left.items
             ≤ self.old.lines + length rest.items + length block.now) }
     {

@@ -11,7 +11,7 @@ ghost use Rattle.line_files.specs.Feeds.{StandsForLines};
 
 use crate::ahead::{Ahead, LEAST};
 use crate::batches::{BLOCK, Behind, read_batch};
-use crate::contents::Contents;
+use crate::contents::{Contents, Opens};
 use crate::feed::Feed;
 use counted_devices::{CountedRead, FaultKind, ReadFault};
 use std::alloc::{AllocError, Global};
@@ -68,7 +68,7 @@ fn read_next<C: Contents, R: CountedRead, T: Threads + Sync>(
 }
 
 /// Feeds the bytes of the reader, to its end, in batches.
-fn feed_in_blocks<C: Contents, R: CountedRead, T: Threads + Sync>(
+fn feed_in_blocks<C: Opens, R: CountedRead, T: Threads + Sync>(
     rt: &T,
     alloc: Global,
     tools: &C::Tools,
@@ -89,7 +89,7 @@ fn feed_in_blocks<C: Contents, R: CountedRead, T: Threads + Sync>(
         });
     };
     let room = bytes.as_mut_slice();
-    let mut ahead = Ahead::of(Feed::<C, C::Fault>::new(alloc));
+    let mut ahead = Ahead::of(Feed::of(alloc, C::opening(alloc)));
     'reads: loop {
         let (next, more) = read_next(rt, tools, ahead, reader, room)?;
         if !more {
@@ -104,7 +104,7 @@ fn feed_in_blocks<C: Contents, R: CountedRead, T: Threads + Sync>(
 /// A file with a fault is refused with its first one: of lines that came whole the first that has
 /// a fault, then `Device` at the line under way where the reader failed. `Memory` comes only where
 /// an allocation was refused. The reader keeps what follows the bytes that were read.
-pub fn read_file<C: Contents, R: CountedRead>(
+pub fn read_file<C: Opens, R: CountedRead>(
     rt: &(impl Threads + Sync),
     alloc: Global,
     reader: &mut R,

@@ -9,3 +9,4 @@ mod Passing
 mod Nothing
 mod Seen
 mod FirstCalls
+mod Listing

@@ -5,6 +5,7 @@ pub mod Readable
 pub mod Together
 pub mod Held
 pub mod Kept
+pub mod KeptZones
 pub mod Followed
 pub mod Verdicts
 pub mod Changes

@@ -26,8 +26,8 @@ use tag::Memory;
 /// The zones, the kept writes and the open reads of a key.
 #[derive(Drop)]
 pub(crate) struct Kept {
-    zones: Zones,
-    writes: Writes,
+    pub(crate) zones: Zones,
+    pub(crate) writes: Writes,
     /// By the place where it began, the number of each open read.
     opens: BTreeMap<u64, u32>,
     /// Where a value was first shown.

@@ -7,10 +7,12 @@
 mod by_value;
 mod judged;
 mod kept;
+mod kept_zone;
 pub mod laws;
 mod monitored_key;
 mod write;
 mod writes;
 
 pub use judged::{Judged, Refusal};
+pub use kept_zone::KeptZone;
 pub use monitored_key::MonitoredKey;

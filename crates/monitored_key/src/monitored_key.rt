@@ -1,15 +1,17 @@
 //! What a monitor knows of one key.
-ghost use Rattle.std.specs.Prelude.{◌≡◌, ◌<◌, ◌≤◌, ◌^◌, ℕ, [], None, IfOk, OnOk, OnErr};
+ghost use Rattle.std.specs.Prelude.{◌≡◌, ◌<◌, ◌≤◌, ◌^◌, ℕ, [], None, IfOk, MatchOption, OnOk, OnErr, length};
 ghost use Rattle.std.specs.Option.{option_copied};
 ghost use Rattle.key_monitor.specs.Follows.{FollowsKept};
 ghost use Rattle.monitored_key.specs.Changes.{ChangesBy, HasGivenUp, HasReadBegun, HasWriteBegun, HasWriteEnded, nothing_held};
 ghost use Rattle.monitored_key.specs.Followed.{FollowsReadBegun, FollowsWithout, FollowsWriteBegun, FollowsWriteEnded, JudgesRead};
-ghost use Rattle.monitored_key.specs.Held.{IsLost, state_of};
+ghost use Rattle.monitored_key.specs.Held.{IsLost, state_of, write_at};
 ghost use Rattle.monitored_key.specs.Kept.{IsSound, seen};
+ghost use Rattle.monitored_key.specs.KeptZones.{HasAllZones, HasNoZone, IsTextOf, IsZoneOf};
 ghost use Rattle.monitored_key.specs.Verdicts.{IsVerdict};
 
 use crate::judged::Judged;
 use crate::kept::Kept;
+use crate::kept_zone::KeptZone;
 use std::alloc::Global;
 use std::marker::Model;
 use tag::Memory;
@@ -156,6 +158,47 @@ impl MonitoredKey {
         if let Ok(mut kept) = self.take() {
             kept.give_up(begin);
             self.put(kept);
+        }
+    }
+
+    /// The zone of the family of the write of that number, if the write is kept and a call of the family has ended.
+    pub fn zone(&self, number: u32) -> Option<KeptZone>
+        ensures { MatchOption result (HasNoZone self.now number) (IsZoneOf self.now number) }
+    {
+        match &self.kept {
+            Some(kept) => kept.zone(number),
+            None => None,
+        }
+    }
+
+    /// The zones of all kept families of which a call has ended.
+    pub fn zones(&self, alloc: Global) -> Result<Vec<KeptZone>, Memory>
+        ensures { IfOk result (λ zones. HasAllZones self.now zones.items) }
+    {
+        match &self.kept {
+            Some(kept) => kept.zone_list(alloc),
+            None => Ok(Vec::new(alloc)),
+        }
+    }
+
+    /// What the write of that number writes, if it is kept.
+    pub fn text(&self, number: u32) -> Option<&str>
+        ensures { MatchOption result (write_at self.now number ≡ None)
+            (λ text. IsTextOf self.now number text.now) }
+    {
+        match &self.kept {
+            Some(kept) => kept.text(number),
+            None => None,
+        }
+    }
+
+    /// How many families are kept.
+    pub fn kept_count(&self) -> usize
+        ensures { result ≡ length self.now.writes }
+    {
+        match &self.kept {
+            Some(kept) => kept.count(),
+            None => 0,
         }
     }
 }

@@ -1,5 +1,5 @@
 //! The kept writes of a key.
-ghost use Rattle.std.specs.Prelude.{◌≡◌, ◌<◌, ◌≤◌, ℕ, [], Some, None, IsSome, MatchOption, OnOk};
+ghost use Rattle.std.specs.Prelude.{◌≡◌, ◌<◌, ◌≤◌, ℕ, [], Some, None, IsSome, MatchOption, OnOk, length};
 ghost use Rattle.std.specs.BTreeMap.{btree_map_len};
 ghost use Rattle.std.specs.Option.{option_map};
 ghost use Rattle.kept_writers.specs.Ends.{IsLeastEnd, IsLeastEndAfter};
@@ -75,6 +75,31 @@ impl Writes {
         match self.span(number) {
             Some((begin, None)) => Some(begin),
             _ => None,
+        }
+    }
+
+    /// By the first end of their families, the numbers of the writes.
+    pub(crate) fn owners(&self) -> &BTreeMap<u64, u32>
+        ensures { result.now ≡ self.now.by_end }
+    {
+        &self.by_end
+    }
+
+    /// How many there are.
+    pub(crate) fn count(&self) -> usize
+        ensures { result ≡ length self.now.by_number.entries }
+    {
+        self.by_number.len()
+    }
+
+    /// What the write of that number writes, if it is kept.
+    pub(crate) fn text(&self, number: u32) -> Option<&str>
+        ensures { MatchOption result (kept_of self.now number ≡ None)
+            (λ text. (kept : KeptWrite) × (kept_of self.now number ≡ Some kept) × (kept.value ≡ text.now)) }
+    {
+        match self.by_number.get(&number) {
+            Some(write) => Some(write.text()),
+            None => None,
         }
     }
 

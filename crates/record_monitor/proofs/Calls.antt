@@ -45,18 +45,21 @@ begun_on rows row keys later still op begun b = record {
   key = b.key;
   action = b.action;
   begins = slice_get-push_left rows row begun.place (Invoke op b.client b.key b.action) b.begins;
+  whose = b.whose;
   key_is = still begun.key b.key b.key_is;
 }
 
 -- the call that the row begins
 pub begun_now : (rows : List Row) (later : List (List ℕ)) (op : OpId) (client : ℕ) (key : List ℕ) (action : Action) (begun : Begun)
-    → begun.place ≡ length rows → slice_get later begun.key ≡ Some key → IsBegun (rows ++ Invoke op client key action ∷ []) later op begun
-begun_now rows later op client key action begun at here = record {
+    → begun.place ≡ length rows → client ≡ begun.client → slice_get later begun.key ≡ Some key
+    → IsBegun (rows ++ Invoke op client key action ∷ []) later op begun
+begun_now rows later op client key action begun at whose here = record {
   client = client;
   key = key;
   action = action;
   begins = subst (λ (p : ℕ). slice_get (rows ++ Invoke op client key action ∷ []) p ≡ Some (Invoke op client key action)) (sym at)
       (slice_get-push_last rows (Invoke op client key action));
+  whose = whose;
   key_is = here;
 }
 

@@ -25,12 +25,14 @@ use Rattle.record_monitor.specs.declared.report.Report.{Report}
 use Rattle.record_monitor.specs.declared.watched.Watched.{Watched}
 use Rattle.record_monitor.specs.declared.watched_keys.WatchedKeys.{WatchedKeys}
 use Rattle.record_monitor.specs.Ended.{HasEnded}
-use Rattle.record_monitor.specs.Followed.{FollowsKey, GoesOn, IsFollowed}
+use Rattle.record_monitor.specs.Followed.{AreTold, FollowsKey, GoesOn, IsFollowed, KeepsState}
 use Rattle.record_monitor.specs.Watched.{AreWatched, IsTrueReport, IsWatched}
 use Rattle.record_monitor.proofs.FirstSeen.{AreFirstSeen-first, AreFirstSeen-same, BeginsCall}
-use Rattle.record_monitor.proofs.OneKey.{are_watched, ChangesOne, found_of_key, goes_on, match_by, match_on, not_none, row_of_key}
+use Rattle.record_monitor.proofs.OneKey.{are_watched, ChangesOne, found_of_key, goes_on, if_of_match, match_by, match_on, not_none, row_of_key}
 use Rattle.record_monitor.proofs.Reporting.{AreAmong, doubted_among, ended_among, refused_among, refused_on, true_on}
 use Rattle.record_monitor.proofs.Responses.{response_back}
+use Rattle.record_monitor.proofs.KeptStates.{state_kept}
+use Rattle.record_monitor.proofs.ToldRows.{are_told_on}
 use Rattle.record_monitor.proofs.Watching.{other_given_up, other_row}
 
 pub set_changes : (xs : List Watched) (number : ℕ) (was now : Watched) → number < length xs → was ≡ get_or xs number was
@@ -120,8 +122,9 @@ module _ (most : ℕ) (rows : List Row) (gone key : List ℕ) (client : ℕ) (op
   own : FollowsKey after key gone now → IsSome now.state → now.is_doubtful ≡ false → (n : ℕ)
       → IsWatched most after gone new.reports.items n key now
   own follows state doubt n = record {
-    state = match_by _ _ now.state (λ none. absurd (not_none now.state none state)) follows;
+    state = match_by _ _ now.state (λ none. absurd (not_none now.state none state)) follows.0;
     doubt = λ e. absurd (cc (sym doubt ∙ e));
+    told = follows.1;
   }
 
   each_now : FollowsKey after key gone now → IsSome now.state → now.is_doubtful ≡ false → (n : ℕ) (k : List ℕ) (watched : Watched)
@@ -138,6 +141,7 @@ module _ (most : ℕ) (rows : List Row) (gone key : List ℕ) (client : ℕ) (op
                 (refused_on most rows row k n watched.is_doubtful old.reports.items r))
                 (λ held f. other_row rows formed k gone watched.is_doubtful held f row may apart) is.state;
             doubt = λ e. doubted_among old.reports.items new.reports.items n among (is.doubt e);
+            told = are_told_on rows row k watched is.told;
           }
       | inr last ↦ absurd (omega (arith, last.0, a.many, slice_get_within old.numbers n k there))
     ]
@@ -191,6 +195,7 @@ after_all most rows gone key client begin place op returned number old new forme
                 (refused_on most rows row k n w.is_doubtful old.reports.items r))
                 (λ held f. other_row rows formed k gone w.is_doubtful held f row may (inl there)) is.state;
             doubt = λ d. doubted_among old.reports.items new.reports.items n among (is.doubt d);
+            told = are_told_on rows row k w is.told;
           };
       ended = λ o gone_there h. elim (cases_eq o.0 op.0) [
         | inl one ↦ (
@@ -243,11 +248,34 @@ given_up_of_key most rows gone key client op number old new was now formed at be
     → IsFollowed rows k (op.0 ∷ gone) doubt held
     = λ k apart doubt held f. other_given_up rows formed k gone doubt held f op client key begun (λ e. apart (sym e)) in
     are_watched most rows rows gone (op.0 ∷ gone) old new a number key at was now numbers changes among (λ k n doubt reports w. w) others
-    a.seen
+    (λ k w t. t) a.seen
     (λ o there h. elim (in_cases op.0 gone o.0 there) [
       | inl one ↦ absurd (pending (subst (HasResponse rows) (sym (same_op op o one)) h))
       | inr was ↦ ended_among old.reports.items new.reports.items o among (a.ended o was h)
     ])
     (goes_on most rows rows gone (op.0 ∷ gone) old new a number key at was now numbers changes among (λ k n doubt reports w. w) others
-    follows goes)
+    (λ k w t. t) follows goes)
+    (λ report there. a.reported report (subst (λ (l : List Report). Contains l report) same there))
+
+-- ---- a note, which may be told
+
+pub noted_of_key : (most : ℕ) (rows : List Row) (gone key : List ℕ) (number : ℕ) (old new : WatchedKeys) (was now : Watched)
+    → slice_get old.numbers number ≡ Some key → AreWatched most rows gone old → new.numbers ≡ old.numbers
+    → ChangesOne old.watched.items new.watched.items number was now → new.reports.items ≡ old.reports.items → KeepsState was now
+    → AreTold rows key now → AreWatched most rows gone new
+noted_of_key most rows gone key number old new was now at a numbers changes same k told =
+    let among : AreAmong old.reports.items new.reports.items = λ report there. subst (λ (l : List Report). Contains l report)
+    (sym same) there in
+    let others : (k : List ℕ) → k ≢ key → (doubt : Bool) (held : Held) → IsFollowed rows k gone doubt held
+    → IsFollowed rows k gone doubt held
+    = λ k apart doubt held f. f in
+    let before = a.each number key was at changes.before in
+    are_watched most rows rows gone gone old new a number key at was now numbers changes among (λ k n doubt reports w. w) others
+    (λ k w t. t) a.seen (λ o there h. ended_among old.reports.items new.reports.items o among (a.ended o there h))
+    (goes_on most rows rows gone gone old new a number key at was now numbers changes among (λ k n doubt reports w. w) others
+    (λ k w t. t) (state_kept was now k rows key gone (if_of_match _ _ was.state before.state), told) (record {
+      doubt = k.doubt;
+      refused = λ none. k.state ∙ none;
+      followed = λ none. sym k.state ∙ none;
+    }))
     (λ report there. a.reported report (subst (λ (l : List Report). Contains l report) same there))

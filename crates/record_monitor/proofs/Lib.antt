@@ -7,6 +7,8 @@ pub mod Following
 pub mod Steps
 pub mod Reporting
 pub mod Watching
+pub mod ToldRows
+pub mod KeptStates
 pub mod OneKey
 pub mod Adding
 pub mod KeySteps
@@ -17,3 +19,4 @@ pub mod Taking
 pub mod Finishing
 pub mod Meaning
 pub mod Rows
+pub mod PlacedCalls

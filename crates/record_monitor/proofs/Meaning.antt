@@ -1,5 +1,5 @@
 -- What reports mean of the calls of a record.
-use Rattle.std.proofs.Common.{ℕ, ◌≡◌, ◌+◌, List, [], ◌∷◌, Option, Some, None, Bool, true, false, MatchOption, is_none, take, sym, ◌∙◌}
+use Rattle.std.proofs.Common.{ℕ, ◌≡◌, ◌+◌, List, [], ◌∷◌, Option, Some, None, Bool, true, false, IfSome, MatchOption, is_none, take, sym, ◌∙◌}
 use Rattle.std.proofs.Common.{subst, refl, arith}
 use Rattle.std.specs.List.{slice_get, Contains}
 use Rattle.std.proofs.lemmas.List.{take-take}
@@ -26,10 +26,11 @@ use Rattle.record_monitor.specs.declared.report.Finding.TheVariants.{Refused, En
 use Rattle.record_monitor.specs.declared.report.Report.{Report}
 use Rattle.record_monitor.specs.declared.taken.Taken.{Taken}
 use Rattle.record_monitor.specs.declared.watched.Watched.{Watched}
-use Rattle.record_monitor.specs.Followed.{IsFollowed}
+use Rattle.record_monitor.specs.Followed.{IsFollowed, told_in}
 use Rattle.record_monitor.specs.Judgements.{WasJudged}
 use Rattle.record_monitor.specs.Monitored.{HasTaken, keys_of, reports_of, watched_of}
 use Rattle.record_monitor.specs.Taken.{KeepsRows}
+use Rattle.record_monitor.specs.Told.{IsTold}
 use Rattle.record_monitor.specs.Watched.{HasReport, WasDoubted}
 use Rattle.record_monitor.proofs.Beginning.{knows_nothing}
 use Rattle.record_monitor.proofs.Following.{ordered}
@@ -139,7 +140,7 @@ module _ (rows : List Row) (formed : IsWellFormed rows) (taken : Taken) (k : Kee
       let own = keys.each at_key.0 key w.0 at_key.1 w.1 in
       let f = state_followed _ _ w.0.state (λ x. unreported x.place at_key.0 (Refused x.refusal) x.reported) own.state in
       let sure = undoubted _ w.0.is_doubtful (λ
-      (x : WasDoubted taken.keys.reports.items at_key.0). unreported x.0 at_key.0 _ x.3) own.doubt in
+      (x : WasDoubted taken.keys.reports.items at_key.0). unreported x.0 at_key.0 _ x.4) own.doubt in
       followed_linearizable rows formed taken k key part is (λ place number op h. unreported place number (EndedAfterAll op) h) f.0
       (subst (λ (d : Bool). IsFollowed rows key k.gone d f.0) sure f.1)
 
@@ -151,3 +152,13 @@ pub unreported_is_linearizable : (rows : List Row) (monitor : Option Taken) (key
     → HasTaken rows monitor → reports_of monitor ≡ [] → IsPart rows key part → IsLinearizable part
 unreported_is_linearizable rows None key part formed taken none is = absurd taken
 unreported_is_linearizable rows (Some taken) key part formed k none is = all_linearizable rows formed taken k none key part is
+
+-- ---- what is told
+
+pub told_is_so : (rows : List Row) (taken : Taken) → KeepsRows rows taken → (number : ℕ) (name : List ℕ)
+    → slice_get taken.keys.numbers number ≡ Some name → IfSome (told_in (slice_get taken.keys.watched.items number)) (IsTold rows name)
+told_is_so rows taken k number name at =
+    let keys = k.keys.knows.keys in
+    let w = get_at taken.keys.watched.items number
+    (omega (arith, keys.many, slice_get_within taken.keys.numbers number name at)) in
+    subst (λ (o : Option Watched). IfSome (told_in o) (IsTold rows name)) (sym w.1) (keys.each number name w.0 at w.1).told.told

@@ -19,12 +19,13 @@ use Rattle.record_monitor.specs.declared.report.Report.{Report}
 use Rattle.record_monitor.specs.declared.watched.Watched.{Watched}
 use Rattle.record_monitor.specs.declared.watched_keys.WatchedKeys.{WatchedKeys}
 use Rattle.record_monitor.specs.Ended.{HasEnded}
-use Rattle.record_monitor.specs.Followed.{FollowsKey, GoesOn, IsFollowed}
+use Rattle.record_monitor.specs.Followed.{AreTold, FollowsKey, GoesOn, IsFollowed}
 use Rattle.record_monitor.specs.Judgements.{WasFound}
 use Rattle.record_monitor.specs.Watched.{AreWatched, IsTrueReport, IsWatched, WasEnded, WasRefused}
 use Rattle.record_monitor.proofs.FirstSeen.{AreFirstSeen-same, BeginsCall}
 use Rattle.record_monitor.proofs.Reporting.{AreAmong, doubted_among, ended_among, refused_among, refused_on, true_on}
 use Rattle.record_monitor.proofs.Responses.{response_back}
+use Rattle.record_monitor.proofs.ToldRows.{are_told_on}
 use Rattle.record_monitor.proofs.Watching.{other_row}
 
 pub match_on : {X : Type 0} (A C : Type 0) (B D : X → Type 0) (o : Option X) → (A → C) → ((x : X) → B x → D x) → MatchOption o A B
@@ -47,6 +48,11 @@ match_by A B (Some x) f h = h
 pub not_none : {X : Type 0} (o : Option X) → o ≡ None → IsSome o → ⊥
 not_none None e h = absurd (cc h)
 not_none (Some x) e h = absurd (none-some x (sym e))
+
+-- what is watched is followed and told
+pub follows_now : (most : ℕ) (rows : List Row) (gone : List ℕ) (reports : List Report) (number : ℕ) (key : List ℕ) (watched : Watched)
+    → IsWatched most rows gone reports number key watched → FollowsKey rows key gone watched
+follows_now most rows gone reports number key watched w = (if_of_match _ _ watched.state w.state, w.told)
 
 -- a key has one number
 pub one_number : (rows : List Row) (keys : List (List ℕ)) → AreFirstSeen rows keys → (n m : ℕ) (key : List ℕ) → slice_get keys n ≡ Some key
@@ -77,20 +83,22 @@ module _ (most : ℕ) (rows after : List Row) (gone later : List ℕ) (old new :
     (refused : (k : List ℕ) (n : ℕ) (doubt : Bool) (reports : List Report) → WasRefused most rows k n doubt reports
     → WasRefused most after k n doubt reports)
     (followed : (k : List ℕ) → k ≢ key → (doubt : Bool) (held : Held) → IsFollowed rows k gone doubt held
-    → IsFollowed after k later doubt held) where
+    → IsFollowed after k later doubt held)
+    (told : (k : List ℕ) (watched : Watched) → AreTold rows k watched → AreTold after k watched) where
   before : IsWatched most rows gone old.reports.items number key was
   before = a.each number key was at changes.before
 
   pub followed_before : FollowsKey rows key gone was
-  followed_before = if_of_match _ _ was.state before.state
+  followed_before = follows_now most rows gone old.reports.items number key was before
 
   -- it goes on, and nothing is new of it
   pub goes_on : FollowsKey after key later now → GoesOn was now → IsWatched most after later new.reports.items number key now
   goes_on follows goes = record {
     state = match_by _ _ now.state (λ none. subst (λ (d : Bool). WasRefused most after key number d new.reports.items) (sym goes.doubt)
         (refused_among most after key number was.is_doubtful old.reports.items new.reports.items among
-        (refused key number was.is_doubtful old.reports.items (none_of_match _ _ was.state (goes.followed none) before.state)))) follows;
+        (refused key number was.is_doubtful old.reports.items (none_of_match _ _ was.state (goes.followed none) before.state)))) follows.0;
     doubt = λ e. doubted_among old.reports.items new.reports.items number among (before.doubt (sym goes.doubt ∙ e));
+    told = follows.1;
   }
 
   each_now : IsWatched most after later new.reports.items number key now → (n : ℕ) (k : List ℕ) (watched : Watched)
@@ -115,6 +123,7 @@ module _ (most : ℕ) (rows after : List Row) (gone later : List ℕ) (old new :
                   (refused k n watched.is_doubtful old.reports.items r))
                   (λ held f. followed k another watched.is_doubtful held f) is.state;
               doubt = λ e. doubted_among old.reports.items new.reports.items n among (is.doubt e);
+              told = told k watched is.told;
             }
       ]
 
@@ -153,6 +162,9 @@ module _ (most : ℕ) (rows : List Row) (row : Row) (gone : List ℕ) (formed : 
   others : (k : List ℕ) → k ≢ key → (doubt : Bool) (held : Held) → IsFollowed rows k gone doubt held → IsFollowed after k gone doubt held
   others k apart doubt held f = other_row rows formed k gone doubt held f row may (out k apart)
 
+  still_told : (k : List ℕ) (watched : Watched) → AreTold rows k watched → AreTold after k watched
+  still_told k watched t = are_told_on rows row k watched t
+
   still_true : (report : Report) → Contains old.reports.items report → IsTrueReport most after old.numbers report
   still_true report there = true_on most rows row old.numbers old.numbers (λ n k e. e) report (a.reported report there)
 
@@ -162,7 +174,7 @@ module _ (most : ℕ) (rows : List Row) (row : Row) (gone : List ℕ) (formed : 
       (a.ended op there (response_back rows row op (λ returned e. ends op returned e there) h))
 
   pub own_follows : FollowsKey rows key gone was
-  own_follows = if_of_match _ _ was.state (a.each number key was at changes.before).state
+  own_follows = follows_now most rows gone old.reports.items number key was (a.each number key was at changes.before)
 
   -- nothing was found
   pub row_of_key : new.reports.items ≡ old.reports.items → FollowsKey after key gone now → GoesOn was now
@@ -170,9 +182,9 @@ module _ (most : ℕ) (rows : List Row) (row : Row) (gone : List ℕ) (formed : 
   row_of_key same follows goes =
       let among : AreAmong old.reports.items new.reports.items = λ report there. subst (λ (l : List Report). Contains l report)
       (sym same) there in
-      are_watched most rows after gone gone old new a number key at was now numbers changes among refused others seen
+      are_watched most rows after gone gone old new a number key at was now numbers changes among refused others still_told seen
       (still_ended among)
-      (goes_on most rows after gone gone old new a number key at was now numbers changes among refused others follows goes)
+      (goes_on most rows after gone gone old new a number key at was now numbers changes among refused others still_told follows goes)
       (λ report there. still_true report (subst (λ (l : List Report). Contains l report) same there))
 
   -- that was found
@@ -202,7 +214,7 @@ module _ (most : ℕ) (rows : List Row) (row : Row) (gone : List ℕ) (formed : 
       finish : IsWatched most after gone new.reports.items number key now → WasFound most after key place finding
           → AreWatched most after gone new
       finish own found = are_watched most rows after gone gone old new a number key at was now numbers changes
-          among_more refused others seen
+          among_more refused others still_told seen
           (still_ended among_more) own (true_now found)
 
     pub found_of_key : (finding : Finding) → new.reports.items ≡ old.reports.items ++ found_report finding ∷ []
@@ -212,14 +224,16 @@ module _ (most : ℕ) (rows : List Row) (row : Row) (gone : List ℕ) (formed : 
         place = place;
         refusal = refusal;
         reported = there_now (Refused refusal) more;
-        judged = h.2;
-        ordered = λ e. h.3 (sym h.1 ∙ e);
+        judged = h.3;
+        ordered = λ e. h.4 (sym h.1 ∙ e);
       }) (subst (λ (o : Option Held). IfSome o (IsFollowed after key gone now.is_doubtful)) (sym h.0) tt);
       doubt = λ e. doubted_among old.reports.items new.reports.items number (among_more (Refused refusal) more)
           ((a.each number key was at changes.before).doubt (sym h.1 ∙ e));
-    }) h.2
-    found_of_key (Undecided one two) more h = finish (Undecided one two) more (record {
-      state = match_by _ _ now.state (λ none. absurd (not_none now.state none h.1)) h.0;
-      doubt = λ e. (place, one, two, there_now (Undecided one two) more);
+      told = h.2;
+    }) h.3
+    found_of_key (Undecided op one two) more h = finish (Undecided op one two) more (record {
+      state = match_by _ _ now.state (λ none. absurd (not_none now.state none h.1)) h.0.0;
+      doubt = λ e. (place, op, one, two, there_now (Undecided op one two) more);
+      told = h.0.1;
     }) h.3
     found_of_key (EndedAfterAll op) more h = absurd h

@@ -38,7 +38,8 @@ doubted_among one other number among w = (
   w.0,
   w.1,
   w.2,
-  among (record { place = w.0; key = number; finding = Undecided w.1 w.2 }) w.3,
+  w.3,
+  among (record { place = w.0; key = number; finding = Undecided w.1 w.2 w.3 }) w.4,
 )
 
 pub ended_among : (one other : List Report) (op : OpId) → AreAmong one other → WasEnded one op → WasEnded other op
@@ -84,7 +85,7 @@ module _ (most : ℕ) (rows : List Row) (row : Row) (key : List ℕ) where
 
   pub found_on : (place : ℕ) (finding : Finding) → WasFound most rows key place finding → WasFound most (rows ++ row ∷ []) key place finding
   found_on place (Refused refusal) w = judged_on place (judged.Refused refusal) w
-  found_on place (Undecided one two) w = judged_on place (judged.Undecided one two) w
+  found_on place (Undecided op one two) w = (judged_on place (judged.Undecided one two) w.0, w.1)
   found_on place (EndedAfterAll op) w = record {
     client = w.client;
     begin = w.begin;

@@ -24,8 +24,8 @@ use Rattle.monitored_key.specs.declared.judged.Refusal.{Refusal}
 use Rattle.record_monitor.specs.declared.report.Finding.{Finding}
 use Rattle.record_monitor.specs.declared.watched.Watched.{Watched}
 use Rattle.record_monitor.specs.Ended.{HasEnded, first_doubt}
-use Rattle.record_monitor.specs.Followed.{FollowsBegun, FollowsFirst, FollowsKey, IsFollowed}
-use Rattle.record_monitor.specs.Judgements.{WasJudged}
+use Rattle.record_monitor.specs.Followed.{AreTold, FollowsBegun, FollowsFirst, FollowsState, IsFollowed}
+use Rattle.record_monitor.specs.Judgements.{WasJudged, WasUndecided}
 use Rattle.record_monitor.specs.Waiting.{AreGivenUp}
 use Rattle.record_monitor.proofs.Following.{call_followed, doubt_followed, first_followed, given_up_followed, holds, ordered}
 use Rattle.record_monitor.proofs.Following.{read_followed, was_judged, write_followed}
@@ -106,11 +106,13 @@ module _ (most : ℕ) (rows : List Row) (key gone : List ℕ) (op : OpId) (clien
       (here (judged.Undecided one two) j))
 
   pub undecided_judged : (one two : ℕ) → IsVerdict (state_of old) begin value (judged.Undecided one two)
-      → WasJudged most after key place (judged.Undecided one two)
+      → WasUndecided most after key place op one two
   undecided_judged one two verdict =
-      subst (λ (p : ℕ). WasJudged most after key p (judged.Undecided one two)) e
-      (was_judged rows formed key gone doubt old f op client begin value at may stays new kept most up
-      (judged.Undecided one two) verdict tt)
+      subst (λ (p : ℕ). WasUndecided most after key p op one two) e (
+        was_judged rows formed key gone doubt old f op client begin value at may stays new kept most up (judged.Undecided one two) verdict
+            tt,
+        refl,
+      )
 
   -- refused at the place; until then the calls had an order, if there was no doubt
   abbrev IsRefusedAt : ℕ → Refusal → Type 0
@@ -129,17 +131,17 @@ module _ (most : ℕ) (rows : List Row) (key gone : List ℕ) (op : OpId) (clien
 
 -- ---- a read that is undecided
 
-module _ (most : ℕ) (rows : List Row) (place : ℕ) (key gone : List ℕ) (old new : Watched) (was held : Held) (one two : ℕ)
+module _ (most : ℕ) (rows : List Row) (place : ℕ) (key gone : List ℕ) (old new : Watched) (was held : Held) (op : OpId) (one two : ℕ)
     (followed : old.state ≡ Some was) (state : new.state ≡ Some held) (doubt : new.is_doubtful ≡ true)
-    (f : IsFollowed rows key gone true held) (judges : WasJudged most rows key place (judged.Undecided one two)) where
-  follows : FollowsKey rows key gone new
+    (f : IsFollowed rows key gone true held) (judges : WasUndecided most rows key place op one two) (told : AreTold rows key new) where
+  follows : FollowsState rows key gone new
   follows = subst (λ (o : Option Held). IfSome o (IsFollowed rows key gone new.is_doubtful)) (sym state)
       (subst (λ (b : Bool). IsFollowed rows key gone b held) (sym doubt) f)
 
-  ended_by : (b : Bool) → old.is_doubtful ≡ b → HasEnded most rows place key gone old new (first_doubt b one two)
-  ended_by false e = (follows, subst IsSome (sym state) refl, doubt, judges)
+  ended_by : (b : Bool) → old.is_doubtful ≡ b → HasEnded most rows place key gone old new (first_doubt b op one two)
+  ended_by false e = ((follows, told), subst IsSome (sym state) refl, doubt, judges)
   ended_by true e = (
-    follows,
+    (follows, told),
     record {
       doubt = doubt ∙ sym e;
       refused = λ none. absurd (none-some was (sym none ∙ followed));
@@ -147,7 +149,7 @@ module _ (most : ℕ) (rows : List Row) (place : ℕ) (key gone : List ℕ) (old
     },
   )
 
-  pub undecided_ended : (found : Option Finding) → found ≡ first_doubt old.is_doubtful one two
+  pub undecided_ended : (found : Option Finding) → found ≡ first_doubt old.is_doubtful op one two
       → HasEnded most rows place key gone old new found
   undecided_ended found e = subst (HasEnded most rows place key gone old new) (sym e) (ended_by old.is_doubtful refl)
 

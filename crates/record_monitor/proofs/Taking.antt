@@ -9,7 +9,7 @@ use Rattle.tag.specs.declared.actions.Returned.{Returned}
 use Rattle.tag.specs.declared.actions.Returned.TheVariants.{Value, Written}
 use Rattle.tag.specs.declared.numbers.OpId.{OpId}
 use Rattle.tag.specs.Tags.{Tag}
-use Rattle.tag.proofs.Lists.{get_at, place_of}
+use Rattle.tag.proofs.Lists.{get_at, place_of, slice_get-push_last}
 use Rattle.recorder.specs.declared.row.Row.{Row}
 use Rattle.recorder.specs.declared.row.Row.TheVariants.{Invoke, Note, Respond}
 use Rattle.recorder.specs.Histories.{call_count, FitsAction, HasResponse, IsWellFormed, MayFollow}
@@ -30,6 +30,7 @@ use Rattle.record_monitor.proofs.OneKey.{match_on}
 use Rattle.record_monitor.proofs.Reporting.{refused_on, true_on}
 use Rattle.record_monitor.proofs.Responses.{response_back}
 use Rattle.record_monitor.proofs.Waits.{contains_cases, given_up_on, reads_of, waits_noted}
+use Rattle.record_monitor.proofs.ToldRows.{are_told_on}
 use Rattle.record_monitor.proofs.Watching.{noted}
 
 -- ---- what is known of a key, before the row
@@ -47,7 +48,7 @@ module _ (A : Type 0) (rows : List Row) (key gone : List ℕ) (doubt : Bool) whe
 
 module _ (most : ℕ) (rows : List Row) (gone : List ℕ) (keys : WatchedKeys) (a : AreWatched most rows gone keys) (number : ℕ) (w : Watched)
     (at : slice_get keys.watched.items number ≡ Some w) where
-  key_at : (key : List ℕ) × (slice_get keys.numbers number ≡ Some key)
+  pub key_at : (key : List ℕ) × (slice_get keys.numbers number ≡ Some key)
   key_at = get_at keys.numbers number (omega (arith, a.many, slice_get_within keys.watched.items number w at))
 
   pub next_of : (place : ℕ) → length rows ≡ place → IsNextAt w place
@@ -156,6 +157,7 @@ noted_watched most rows gone keys formed op tag may a = record {
         state = match_on _ _ _ _ w.state (λ r. refused_on most rows (Note op tag) k n w.is_doubtful keys.reports.items r)
             (λ held f. noted rows formed k gone w.is_doubtful held f op tag may) is.state;
         doubt = is.doubt;
+        told = are_told_on rows (Note op tag) k w is.told;
       };
   reported = λ report there. true_on most rows (Note op tag) keys.numbers keys.numbers (λ n k x. x) report (a.reported report there);
   ended = λ o there h. a.ended o there (response_back rows (Note op tag) o (λ r x. absurd (cc x)) h);
@@ -182,3 +184,9 @@ noted_kept place rows gone taken formed op tag may k = record {
   recent = k.recent;
   at = k.at;
 }
+
+-- the note stands where the next row does
+pub note_at : (rows : List Row) (op : OpId) (tag : Tag) (place : ℕ) → place ≡ length rows
+    → slice_get (rows ++ Note op tag ∷ []) place ≡ Some (Note op tag)
+note_at rows op tag place e = subst (λ (p : ℕ). slice_get (rows ++ Note op tag ∷ []) p ≡ Some (Note op tag)) (sym e)
+    (slice_get-push_last rows (Note op tag))

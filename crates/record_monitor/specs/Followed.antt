@@ -1,5 +1,5 @@
 -- What is known of one key of a record.
-use Rattle.std.specs.Prelude.{ℕ, ◌≡◌, ◌<◌, ◌≤◌, ◌+◌, Bool, false, List, Option, None}
+use Rattle.std.specs.Prelude.{ℕ, ◌≡◌, ◌<◌, ◌≤◌, ◌+◌, Bool, false, List, Option, Some, None}
 use Rattle.std.specs.Prelude.{IfSome, is_none, length}
 use Rattle.tag.specs.declared.actions.Action.{Action}
 use Rattle.recorder.specs.declared.part.Call.{Call}
@@ -13,7 +13,10 @@ use Rattle.key_monitor.specs.Judged.{BeginsCall}
 use Rattle.monitored_key.specs.Held.{Held, IsLost, state_of}
 use Rattle.growing_parts.specs.Nothing.{BeginsFirst}
 use Rattle.growing_parts.specs.PartsWithout.{IsPartWithout}
+use Rattle.record_monitor.specs.declared.told.Told.{Told}
 use Rattle.record_monitor.specs.declared.watched.Watched.{Watched}
+use Rattle.record_monitor.specs.KeyCalls.{KnowsCalls}
+use Rattle.record_monitor.specs.Told.{IsTold}
 
 module _ (new : KeyState) (op : ℕ) (action : Action) (place : ℕ) where
   -- the new state follows the calls with one more, of that number and action
@@ -44,9 +47,27 @@ pub record IsFollowed (rows : List Row) (key gone : List ℕ) (is_doubtful : Boo
   pub decided : is_doubtful ≡ false → AreAllRead part (ReadsBy part source)
 
 -- so it is of a key that isn't refused
-abbrev pub FollowsKey : List Row → List ℕ → List ℕ → Watched → Type 0
-FollowsKey rows key gone watched =
+abbrev pub FollowsState : List Row → List ℕ → List ℕ → Watched → Type 0
+FollowsState rows key gone watched =
     IfSome watched.state (IsFollowed rows key gone watched.is_doubtful)
+
+-- what is kept of the calls of the key, and what is told of them, is so
+pub record AreTold (rows : List Row) (key : List ℕ) (watched : Watched) : Type 0 where
+  pub calls : KnowsCalls rows key watched.calls
+  pub told : IfSome watched.told (IsTold rows key)
+
+-- both
+abbrev pub FollowsKey : List Row → List ℕ → List ℕ → Watched → Type 0
+FollowsKey rows key gone watched = FollowsState rows key gone watched × AreTold rows key watched
+
+-- a step leaves the calls and what is told of them, or it leaves the state
+pub record KeepsTold (old new : Watched) : Type 0 where
+  pub calls : new.calls ≡ old.calls
+  pub told : new.told ≡ old.told
+
+pub record KeepsState (old new : Watched) : Type 0 where
+  pub state : new.state ≡ old.state
+  pub doubt : new.is_doubtful ≡ old.is_doubtful
 
 -- the next row of the key may have that place; its next write may have that number
 abbrev pub IsNextAt : Watched → ℕ → Type 0
@@ -67,3 +88,16 @@ is_refused watched = is_none watched.state
 
 abbrev pub is_doubtful : Watched → Bool
 is_doubtful watched = watched.is_doubtful
+
+-- how many families are kept: of a refused key none
+abbrev pub kept_in : Option Held → ℕ
+kept_in None = 0
+kept_in (Some held) = length held.writes
+
+abbrev pub kept_of : Watched → ℕ
+kept_of watched = kept_in watched.state
+
+-- what is told of a key's refusal
+abbrev pub told_in : Option Watched → Option Told
+told_in None = None
+told_in (Some watched) = watched.told

@@ -55,8 +55,12 @@ module _ (most : ℕ) (rows : List Row) (key : List ℕ) (place : ℕ) where
     pub answers : slice_get rows place ≡ Some (Respond op returned)
     pub late : begin + most < place
 
+  -- the row there answers that read, which may have read either of the two writes
+  abbrev pub WasUndecided : OpId → ℕ → ℕ → Type 0
+  WasUndecided op one two = (was : WasJudged (judged.Undecided one two)) × (was.op ≡ op)
+
   -- what was found is so
   abbrev pub WasFound : Finding → Type 0
   WasFound (Refused refusal) = WasJudged (judged.Refused refusal)
-  WasFound (Undecided one two) = WasJudged (judged.Undecided one two)
+  WasFound (Undecided op one two) = WasUndecided op one two
   WasFound (EndedAfterAll op) = HasEndedAfterAll op

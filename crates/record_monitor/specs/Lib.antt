@@ -1,4 +1,6 @@
 pub mod Waiting
+pub mod Told
+pub mod KeyCalls
 pub mod Followed
 pub mod Judgements
 pub mod Ended

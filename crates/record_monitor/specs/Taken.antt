@@ -18,13 +18,15 @@ use Rattle.record_monitor.specs.declared.taken.Taken.{Taken}
 use Rattle.record_monitor.specs.Waiting.{AreGivenUp, AreRecent, AreWaiting}
 use Rattle.record_monitor.specs.Watched.{AreWatched}
 
--- the call began at the place that is kept, and its key has the number that is
+-- the call began at the place that is kept, by the client that is, and its key has the number that
+-- is
 pub record IsBegun (rows : List Row) (keys : List (List ℕ)) (op : OpId) (begun : Begun) : Type 0
   where
     pub client : ℕ
     pub key : List ℕ
     pub action : Action
     pub begins : slice_get rows begun.place ≡ Some (Invoke op client key action)
+    pub whose : client ≡ begun.client
     pub key_is : slice_get keys begun.key ≡ Some key
 
 -- so it is of each pending call

@@ -14,7 +14,7 @@ use Rattle.record_monitor.specs.declared.report.Report.{Report}
 use Rattle.record_monitor.specs.declared.report.Finding.{Finding}
 use Rattle.record_monitor.specs.declared.watched.Watched.{Watched}
 use Rattle.record_monitor.specs.declared.watched_keys.WatchedKeys.{WatchedKeys}
-use Rattle.record_monitor.specs.Followed.{IsFollowed}
+use Rattle.record_monitor.specs.Followed.{AreTold, IsFollowed}
 use Rattle.record_monitor.specs.Judgements.{WasFound, WasJudged}
 
 -- the key has that number: its place among the keys that were seen, or the place after them
@@ -39,7 +39,8 @@ pub record WasRefused (most : ℕ) (rows : List Row) (key : List ℕ) (number : 
 -- a doubt of the key is reported
 abbrev pub WasDoubted : List Report → ℕ → Type 0
 WasDoubted reports number =
-    (place : ℕ) × (one : ℕ) × (two : ℕ) × HasReport reports place number (Undecided one two)
+    (place : ℕ) × (op : OpId) × (one : ℕ) × (two : ℕ)
+    × HasReport reports place number (Undecided op one two)
 
 -- it is reported that the read was answered though it was given up
 abbrev pub WasEnded : List Report → OpId → Type 0
@@ -53,13 +54,15 @@ pub record IsTrueReport (most : ℕ) (rows : List Row) (keys : List (List ℕ)) 
   pub found : WasFound most rows key report.place report.finding
 
 module _ (most : ℕ) (rows : List Row) (gone : List ℕ) where
-  -- the key is refused and that is reported, or it is followed; and its doubt is reported
+  -- the key is refused and that is reported, or it is followed; its doubt is reported; and what is
+  -- told of its calls is so
   pub record IsWatched (reports : List Report) (number : ℕ) (key : List ℕ) (watched : Watched) :
       Type 0 where
     pub state : MatchOption watched.state
         (WasRefused most rows key number watched.is_doubtful reports)
         (IsFollowed rows key gone watched.is_doubtful)
     pub doubt : watched.is_doubtful ≡ true → WasDoubted reports number
+    pub told : AreTold rows key watched
 
   -- the keys are those that the rows begin calls on; each is watched; all that is reported is so;
   -- and each answer of a read that was given up is reported

@@ -4,12 +4,16 @@
 //! for each read that is answered after it was given up. A row takes about the logarithm of that.
 #![tactic(auto)]
 
+mod key_calls;
 pub mod laws;
 mod record_monitor;
 mod report;
 mod taken;
+mod telling;
+mod told;
 mod watched;
 mod watched_keys;
 
 pub use record_monitor::RecordMonitor;
 pub use report::{Finding, Report};
+pub use told::{Told, ToldCall, ToldNote, ToldSide};

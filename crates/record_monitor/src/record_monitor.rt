@@ -1,20 +1,23 @@
 //! A monitor of a record.
-ghost use Rattle.std.specs.Prelude.{◌≡◌, [], true, List, Some, None, IfOk, IfSome, OnErr, count_by};
+ghost use Rattle.std.specs.Prelude.{◌≡◌, ◌-◌, ◌^◌, [], true, ℕ, List, Some, None, IfOk, IfSome, OnErr, count_by, min, slice_get};
+ghost use Rattle.std.specs.List.{sum_by};
+ghost use Rattle.std.specs.Option.{option_copied};
 ghost use Rattle.tag.specs.Names.{is_key};
-ghost use Rattle.tag.specs.Tags.{Tag};
 ghost use Rattle.recorder.specs.declared.row.Row.{Row};
 ghost use Rattle.recorder.specs.Histories.{IsWellFormed};
 ghost use Rattle.record_monitor.specs.Taken.{KeepsSome};
-ghost use Rattle.record_monitor.specs.Followed.{is_doubtful, is_refused};
+ghost use Rattle.record_monitor.specs.Followed.{is_doubtful, is_refused, kept_of, told_in};
+ghost use Rattle.record_monitor.specs.Told.{IsTold};
 ghost use Rattle.record_monitor.specs.Monitored.{HasTaken, Takes, begun_of, keys_of, left_of, reports_of, watched_of};
 
 use crate::report::Report;
 use crate::taken::Taken;
+use crate::told::Told;
 use open_calls::CallRefusal;
 use recorder::{ActionRef, ReturnedRef};
 use std::alloc::Global;
 use std::marker::Model;
-use tag::{ClientId, Key, Memory, OpId};
+use tag::{ClientId, Key, Memory, OpId, Tag};
 
 /// A record of calls on registers, judged by its values while it comes.
 ///
@@ -106,6 +109,31 @@ impl RecordMonitor {
         }
     }
 
+    /// How many families are kept, of all keys: `usize::MAX` if they are more.
+    pub fn kept_count(&self) -> usize
+        ensures { result ≡ min (sum_by kept_of (watched_of self.now)) (2 ^ 64 - 1) }
+    {
+        match &self.taken {
+            Some(taken) => taken.keys().kept_count(),
+            None => 0,
+        }
+    }
+
+    /// The calls that show why the key of that number was refused, if it was: each is one of the rows that were taken.
+    ///
+    /// That a refused key has them isn't promised: without them it is known that it is refused, and not why.
+    pub fn told(&self, key: usize) -> Option<&Told>
+        ensures value { option_copied result ≡ told_in (slice_get (watched_of self.now) key) }
+        ensures told { (rows : List Row) (name : List ℕ) → HasTaken rows self.now
+            → slice_get (keys_of self.now) key ≡ Some name
+            → IfSome (option_copied result) (IsTold rows name) }
+    {
+        match &self.taken {
+            Some(taken) => taken.keys().told(key),
+            None => None,
+        }
+    }
+
     /// Takes out what is kept, if it isn't lost.
     fn take(&mut self) -> Result<Taken, Memory>
         ensures kept { IfOk result (λ taken. KeepsSome taken × (self.old ≡ Some taken)) }
@@ -145,12 +173,12 @@ impl RecordMonitor {
     }
 
     /// A call's tag is fixed.
-    pub fn note(&mut self, op: OpId) -> Result<(), CallRefusal>
-        ensures { (rows : List Row) (tag : Tag) → IsWellFormed rows → HasTaken rows self.old
+    pub fn note(&mut self, op: OpId, tag: Tag) -> Result<(), CallRefusal>
+        ensures { (rows : List Row) → IsWellFormed rows → HasTaken rows self.old
             → Takes rows self.old (Row.Note op tag) result self.new }
     {
         let mut taken = self.take()?;
-        let answer = taken.note(op);
+        let answer = taken.note(op, tag);
         self.keep(taken, answer)
     }
 

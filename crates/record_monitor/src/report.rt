@@ -17,8 +17,8 @@ pub struct Report {
 pub enum Finding {
     /// No order of the key's calls has the answer of the read. From then on the key isn't judged.
     Refused(Refusal),
-    /// The read may have read either of these writes, and perhaps others. The key is judged without it.
-    Undecided(u32, u32),
+    /// The read may have read either of these two writes, and perhaps others. The key is judged without it.
+    Undecided(OpId, u32, u32),
     /// That read was given up, and is answered after all.
     EndedAfterAll(OpId),
 }

@@ -3,23 +3,25 @@ ghost use Rattle.std.specs.Prelude.{◌≡◌, ◌<◌, ◌+◌, ◌^◌, ℕ, [
 ghost use Rattle.std.specs.Prelude.{slice_get};
 ghost use Rattle.std.specs.Option.{option_copied};
 ghost use Rattle.tag.specs.Names.{is_key};
-ghost use Rattle.tag.specs.Tags.{Tag};
 ghost use Rattle.tag.specs.declared.actions.Action.{Action as Asked};
 ghost use Rattle.tag.specs.declared.actions.Action.TheVariants as asked;
 ghost use Rattle.tag.specs.declared.actions.Returned.TheVariants as answered;
 ghost use Rattle.recorder.specs.declared.row.Row.{Row};
 ghost use Rattle.recorder.specs.Histories.{IsWellFormed, MayFollow};
+ghost use Rattle.recorder.specs.States.{is_write};
 ghost use Rattle.record_monitor.specs.Taken.{HasMoved, IsBegun, KeepsKeys, KeepsRows, KeepsSome, MayTake, TakesNext};
+ghost use Rattle.record_monitor.specs.Told.{IsBareCall};
 ghost use Rattle.record_monitor.specs.Waiting.{AreGivenUp, AreRecent, AreWaiting};
 ghost use Rattle.record_monitor.specs.Watched.{AreWatched, IsNumberOf};
 ghost use Rattle.monitored_key.specs.Maps.{entry_at};
 
+use crate::told::{ToldCall, ToldNote};
 use crate::watched_keys::WatchedKeys;
 use open_calls::{CallRefusal, OpenCalls};
 use recorder::{ActionRef, ReturnedRef};
 use std::alloc::Global;
 use std::collections::BTreeMap;
-use tag::{ClientId, Memory, OpId};
+use tag::{ClientId, Memory, OpId, Tag};
 
 /// What is kept of a pending call.
 #[derive(Clone, Copy, Debug, Drop)]
@@ -28,6 +30,8 @@ pub(crate) struct Begun {
     key: usize,
     /// The place of its row.
     place: u64,
+    /// Who began it.
+    client: ClientId,
 }
 
 /// What is kept of the rows that were taken.
@@ -94,12 +98,24 @@ impl Taken {
     {
         // A call has at most three rows, so that each place is below 2^63.
         let _number = call_number(op);
+        let number = self.keys.number_of(key);
+        let place = self.place;
         let begun = Begun {
-            key: self.keys.number_of(key),
-            place: self.place,
+            key: number,
+            place,
+            client,
         };
         self.calls.begin(op, client, action, begun)?;
-        self.begin(begun.key, key, op, action)?;
+        let is_write = action.written().is_some();
+        let call = ToldCall {
+            op,
+            client,
+            is_write,
+            begun: place,
+            noted: None,
+            answered: None,
+        };
+        self.begin(number, key, &call, action)?;
         self.end_row();
         Ok(())
     }
@@ -109,23 +125,24 @@ impl Taken {
         &mut self,
         number: usize,
         key: &str,
-        op: OpId,
+        call: &ToldCall,
         action: &ActionRef<'_>,
     ) -> Result<(), Memory>
         requires key { is_key key.now ≡ true }
+        requires bare { IsBareCall call.now (is_write action.now) self.old.place }
         requires number { IsNumberOf self.old.keys.numbers key.now number }
-        requires may { (client : ℕ) × MayTake self.old (Row.Invoke op client key.now action.now) }
+        requires may { MayTake self.old (Row.Invoke call.now.op call.now.client key.now action.now) }
         requires small { self.old.place < 2 ^ 63 }
         ensures calls { self.new.calls ≡ self.old.calls }
         ensures here { OnOk result (slice_get self.new.keys.numbers number ≡ Some key.now) }
         ensures stay { OnOk result ((n : ℕ) (k : List ℕ) → slice_get self.old.keys.numbers n ≡ Some k
             → slice_get self.new.keys.numbers n ≡ Some k) }
-        ensures keys { OnOk result ((rows : List Row) (gone : List ℕ) (client : ℕ) → IsWellFormed rows
-            → MayFollow rows (Row.Invoke op client key.now action.now)
-            → KeepsKeys (length rows) rows gone self.old
-            → KeepsKeys (length rows) (rows ++ Row.Invoke op client key.now action.now ∷ []) gone self.new) }
+        ensures keys { OnOk result ((rows : List Row) (gone : List ℕ) → IsWellFormed rows
+            → MayFollow rows (Row.Invoke call.now.op call.now.client key.now action.now)
+            → KeepsKeys (length rows) rows gone self.old → KeepsKeys (length rows)
+            (rows ++ Row.Invoke call.now.op call.now.client key.now action.now ∷ []) gone self.new) }
     {
-        self.keys.begin(number, key, op, action, self.place)?;
+        self.keys.begin(number, key, call, action, self.place)?;
         match action.written() {
             None => {
                 self.reads.insert(self.place, number)?;
@@ -136,14 +153,33 @@ impl Taken {
     }
 
     /// A call is noted.
-    pub(crate) fn note(&mut self, op: OpId) -> Result<(), CallRefusal>
+    pub(crate) fn note(&mut self, op: OpId, tag: Tag) -> Result<(), CallRefusal>
         requires { KeepsSome self.old }
-        ensures { (rows : List Row) (tag : Tag) → IsWellFormed rows → KeepsRows rows self.old
+        ensures { (rows : List Row) → IsWellFormed rows → KeepsRows rows self.old
             → TakesNext rows self.old (Row.Note op tag) result self.new }
     {
         self.calls.note(op)?;
+        self.keep_note(op, tag);
         self.end_row();
         Ok(())
+    }
+
+    /// The row's note may be told.
+    fn keep_note(&mut self, op: OpId, tag: Tag)
+        ensures calls { self.new.calls ≡ self.old.calls }
+        ensures numbers { self.new.keys.numbers ≡ self.old.keys.numbers }
+        ensures keys { (rows : List Row) (gone : List ℕ) (place : ℕ)
+            → slice_get rows self.old.place ≡ Some (Row.Note op tag)
+            → KeepsKeys place rows gone self.old → KeepsKeys place rows gone self.new }
+    {
+        if let Some(call) = self.calls.call(op) {
+            let begun = call.payload;
+            let note = ToldNote {
+                place: self.place,
+                tag,
+            };
+            self.keys.note(begun.key, begun.place, op, &note);
+        }
     }
 
     /// A call is answered.
@@ -193,7 +229,15 @@ impl Taken {
             → IsBegun rows self.old.keys.numbers op begun → KeepsKeys (length rows) rows gone self.old
             → KeepsKeys (length rows) (rows ++ Row.Respond op answered.Written ∷ []) gone self.new) }
     {
-        self.keys.end_write(begun.key, op, self.place)
+        let call = ToldCall {
+            op,
+            client: begun.client,
+            is_write: true,
+            begun: begun.place,
+            noted: None,
+            answered: None,
+        };
+        self.keys.end_write(begun.key, &call, self.place)
     }
 
     /// The key takes the answer of the read, unless the read was given up.
@@ -210,7 +254,17 @@ impl Taken {
             gone self.new) }
     {
         match self.reads.remove(&begun.place) {
-            Some(number) => self.keys.end_read(number, begun.place, value, self.place),
+            Some(number) => {
+                let call = ToldCall {
+                    op,
+                    client: begun.client,
+                    is_write: false,
+                    begun: begun.place,
+                    noted: None,
+                    answered: None,
+                };
+                self.keys.end_read(number, &call, value, self.place)
+            }
             None => self.keys.end_after_all(begun.key, op, self.place),
         }
     }

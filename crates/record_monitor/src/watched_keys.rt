@@ -1,6 +1,8 @@
 //! The keys of a record.
-ghost use Rattle.std.specs.Prelude.{◌≡◌, ◌<◌, ◌≤◌, ◌+◌, ◌^◌, ℕ, [], ◌∷◌, ◌++◌, List, None, Some, true, Contains, OnOk, count_by, length};
+ghost use Rattle.std.specs.Prelude.{◌≡◌, ◌<◌, ◌≤◌, ◌+◌, ◌-◌, ◌^◌, ℕ, [], ◌∷◌, ◌++◌, List, None, Some, false, true, Contains, OnOk};
+ghost use Rattle.std.specs.Prelude.{count_by, length, min};
 ghost use Rattle.std.specs.Prelude.{slice_get};
+ghost use Rattle.std.specs.List.{sum_by};
 ghost use Rattle.std.specs.Option.{option_copied};
 ghost use Rattle.tag.specs.Names.{is_key};
 ghost use Rattle.tag.specs.declared.actions.Action.TheVariants as asked;
@@ -11,11 +13,14 @@ ghost use Rattle.recorder.specs.declared.row.Row.{Row};
 ghost use Rattle.recorder.specs.Histories.{IsWellFormed, HasResponse, MayFollow};
 ghost use Rattle.growing_parts.specs.PartsWithout.{AreReadsOf};
 ghost use Rattle.record_monitor.specs.declared.watched.Watched.{Watched};
-ghost use Rattle.record_monitor.specs.Followed.{IsNextAt, IsNumberedAt, is_doubtful, is_refused};
+ghost use Rattle.recorder.specs.States.{is_write};
+ghost use Rattle.record_monitor.specs.Followed.{IsNextAt, IsNumberedAt, is_doubtful, is_refused, kept_of, told_in};
+ghost use Rattle.record_monitor.specs.Told.{HasNoteAt, IsBareCall};
 ghost use Rattle.record_monitor.specs.Waiting.{AreGivenUp};
 ghost use Rattle.record_monitor.specs.Watched.{AreWatched, IsNumberOf};
 
 use crate::report::{Finding, Report};
+use crate::told::{Told, ToldCall, ToldNote};
 use crate::watched::Watched;
 use key_index::KeyNumbers;
 use recorder::ActionRef;
@@ -87,6 +92,28 @@ impl WatchedKeys {
         count
     }
 
+    /// Why the key of that number was refused, if it was and the calls are kept that show it.
+    pub(crate) fn told(&self, number: usize) -> Option<&Told>
+        ensures { option_copied result ≡ told_in (slice_get self.now.watched.items number) }
+    {
+        if number < self.watched.len() {
+            self.watched[number].told()
+        } else {
+            None
+        }
+    }
+
+    /// How many families are kept, of all keys.
+    pub(crate) fn kept_count(&self) -> usize
+        ensures { result ≡ min (sum_by kept_of self.now.watched.items) (2 ^ 64 - 1) }
+    {
+        let mut count = 0usize;
+        for number in 0..self.watched.len() {
+            count = count.saturating_add(self.watched[number].kept_count());
+        }
+        count
+    }
+
     /// The key's number, or the one that it gets when it is first seen.
     pub(crate) fn number_of(&self, key: &str) -> usize
         requires key { is_key key.now ≡ true }
@@ -103,90 +130,118 @@ impl WatchedKeys {
         &mut self,
         number: usize,
         key: &str,
-        op: OpId,
+        call: &ToldCall,
         action: &ActionRef<'_>,
         place: u64,
     ) -> Result<(), Memory>
         requires key { is_key key.now ≡ true }
+        requires bare { IsBareCall call.now (is_write action.now) place }
         requires number { IsNumberOf self.old.numbers key.now number }
         requires many { length self.old.watched.items ≡ length self.old.numbers }
         requires next { (w : Watched) → slice_get self.old.watched.items number ≡ Some w → IsNextAt w place }
         requires numbered { (w : Watched) → slice_get self.old.watched.items number ≡ Some w
-            → IsNumberedAt w op.0 }
+            → IsNumberedAt w call.now.op.0 }
         requires small { place < 2 ^ 63 }
         ensures here { OnOk result (slice_get self.new.numbers number ≡ Some key.now) }
         ensures stay { OnOk result ((n : ℕ) (k : List ℕ) → slice_get self.old.numbers n ≡ Some k
             → slice_get self.new.numbers n ≡ Some k) }
-        ensures watched { OnOk result ((most : ℕ) (rows : List Row) (gone : List ℕ) (client : ℕ)
+        ensures watched { OnOk result ((most : ℕ) (rows : List Row) (gone : List ℕ)
             → IsWellFormed rows → length rows ≡ place
-            → MayFollow rows (Row.Invoke op client key.now action.now) → AreReadsOf rows gone
-            → AreWatched most rows gone self.old
-            → AreWatched most (rows ++ Row.Invoke op client key.now action.now ∷ []) gone self.new) }
+            → MayFollow rows (Row.Invoke call.now.op call.now.client key.now action.now)
+            → AreReadsOf rows gone → AreWatched most rows gone self.old → AreWatched most
+            (rows ++ Row.Invoke call.now.op call.now.client key.now action.now ∷ []) gone self.new) }
     {
         if number < self.watched.len() {
-            return self.watched[number].begin(op, action, place);
+            return self.watched[number].begin(call, action, place);
         }
-        self.add(key, op, action, place)
+        self.add(key, call, action, place)
     }
 
     /// The first call on a key begins.
-    fn add(&mut self, key: &str, op: OpId, action: &ActionRef<'_>, place: u64) -> Result<(), Memory>
+    fn add(
+        &mut self,
+        key: &str,
+        call: &ToldCall,
+        action: &ActionRef<'_>,
+        place: u64,
+    ) -> Result<(), Memory>
         requires key { is_key key.now ≡ true }
+        requires bare { IsBareCall call.now (is_write action.now) place }
         requires unseen { Contains self.old.numbers key.now → ⊥ }
         requires many { length self.old.watched.items ≡ length self.old.numbers }
         requires small { place < 2 ^ 63 }
         ensures numbers { OnOk result (self.new.numbers ≡ self.old.numbers ++ key.now ∷ []) }
-        ensures watched { OnOk result ((most : ℕ) (rows : List Row) (gone : List ℕ) (client : ℕ)
+        ensures watched { OnOk result ((most : ℕ) (rows : List Row) (gone : List ℕ)
             → IsWellFormed rows → length rows ≡ place
-            → MayFollow rows (Row.Invoke op client key.now action.now) → AreReadsOf rows gone
-            → AreWatched most rows gone self.old
-            → AreWatched most (rows ++ Row.Invoke op client key.now action.now ∷ []) gone self.new) }
+            → MayFollow rows (Row.Invoke call.now.op call.now.client key.now action.now)
+            → AreReadsOf rows gone → AreWatched most rows gone self.old → AreWatched most
+            (rows ++ Row.Invoke call.now.op call.now.client key.now action.now ∷ []) gone self.new) }
     {
-        let watched = Watched::first(self.alloc, op, action, place)?;
+        let watched = Watched::first(self.alloc, call, action, place)?;
         self.numbers.number_text(key)?;
         self.watched.push(watched)?;
         Ok(())
     }
 
+    /// A pending call on the key of that number, which began at `begin`, is noted.
+    pub(crate) fn note(&mut self, number: usize, begin: u64, op: OpId, note: &ToldNote)
+        ensures numbers { self.new.numbers ≡ self.old.numbers }
+        ensures watched { (most : ℕ) (rows : List Row) (gone : List ℕ) → HasNoteAt rows op note.now
+            → AreWatched most rows gone self.old → AreWatched most rows gone self.new }
+    {
+        if number < self.watched.len() {
+            self.watched[number].note(begin, op, note);
+        }
+    }
+
     /// A write on the key of that number is answered.
-    pub(crate) fn end_write(&mut self, number: usize, op: OpId, place: u64) -> Result<(), Memory>
+    pub(crate) fn end_write(
+        &mut self,
+        number: usize,
+        call: &ToldCall,
+        place: u64,
+    ) -> Result<(), Memory>
+        requires bare { IsBareCall call.now true call.now.begun }
         requires there { number < length self.old.watched.items }
         requires next { (w : Watched) → slice_get self.old.watched.items number ≡ Some w → IsNextAt w place }
         requires small { place < 2 ^ 63 }
         ensures numbers { self.new.numbers ≡ self.old.numbers }
-        ensures watched { OnOk result ((most : ℕ) (rows : List Row) (gone key value : List ℕ) (client : ℕ)
+        ensures watched { OnOk result ((most : ℕ) (rows : List Row) (gone key value : List ℕ)
             → IsWellFormed rows → length rows ≡ place → slice_get self.old.numbers number ≡ Some key
-            → Contains rows (Row.Invoke op client key (asked.Write value))
-            → MayFollow rows (Row.Respond op answered.Written) → (Contains gone op.0 → ⊥)
-            → AreWatched most rows gone self.old
-            → AreWatched most (rows ++ Row.Respond op answered.Written ∷ []) gone self.new) }
+            → slice_get rows call.now.begun
+            ≡ Some (Row.Invoke call.now.op call.now.client key (asked.Write value))
+            → MayFollow rows (Row.Respond call.now.op answered.Written)
+            → (Contains gone call.now.op.0 → ⊥) → AreWatched most rows gone self.old
+            → AreWatched most (rows ++ Row.Respond call.now.op answered.Written ∷ []) gone self.new) }
     {
-        self.watched[number].end_write(op, place)
+        self.watched[number].end_write(call, place)
     }
 
-    /// A read that began at `begin`, and isn't given up, is answered.
+    /// A read that isn't given up is answered.
     pub(crate) fn end_read(
         &mut self,
         number: usize,
-        begin: u64,
+        call: &ToldCall,
         value: Option<&str>,
         place: u64,
     ) -> Result<(), Memory>
+        requires bare { IsBareCall call.now false call.now.begun }
         requires there { number < length self.old.watched.items }
-        requires began { begin < place }
+        requires began { call.now.begun < place }
         requires next { (w : Watched) → slice_get self.old.watched.items number ≡ Some w → IsNextAt w place }
         requires small { place < 2 ^ 63 }
         ensures numbers { self.new.numbers ≡ self.old.numbers }
-        ensures watched { OnOk result ((most : ℕ) (rows : List Row) (gone key : List ℕ) (op : Number)
-            (client : ℕ) → IsWellFormed rows → length rows ≡ place
-            → slice_get self.old.numbers number ≡ Some key
-            → slice_get rows begin ≡ Some (Row.Invoke op client key asked.Read)
-            → MayFollow rows (Row.Respond op (answered.Value (option_copied value.entry)))
-            → AreGivenUp most rows gone → (Contains gone op.0 → ⊥) → AreWatched most rows gone self.old
-            → AreWatched most (rows ++ Row.Respond op (answered.Value (option_copied value.entry)) ∷ []) gone
+        ensures watched { OnOk result ((most : ℕ) (rows : List Row) (gone key : List ℕ)
+            → IsWellFormed rows → length rows ≡ place → slice_get self.old.numbers number ≡ Some key
+            → slice_get rows call.now.begun
+            ≡ Some (Row.Invoke call.now.op call.now.client key asked.Read)
+            → MayFollow rows (Row.Respond call.now.op (answered.Value (option_copied value.entry)))
+            → AreGivenUp most rows gone → (Contains gone call.now.op.0 → ⊥)
+            → AreWatched most rows gone self.old → AreWatched most
+            (rows ++ Row.Respond call.now.op (answered.Value (option_copied value.entry)) ∷ []) gone
             self.new) }
     {
-        if let Some(finding) = self.watched[number].end_read(begin, value, place)? {
+        if let Some(finding) = self.watched[number].end_read(call, value, place)? {
             self.report(number, place, finding)?;
         }
         Ok(())

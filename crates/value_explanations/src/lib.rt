@@ -16,4 +16,4 @@ mod value_sentences;
 pub use call_lists::{append_doubt_calls, append_fault_calls};
 pub use faults::{append_doubt, append_value_fault};
 pub use value_reasons::{SideCalls, ValueReason, value_reason};
-pub use value_sentences::append_value_reason;
+pub use value_sentences::{append_circle, append_value_reason};

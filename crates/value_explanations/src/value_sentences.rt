@@ -1,8 +1,8 @@
 //! Why values give no order, in sentences.
 ghost use Rattle.std.specs.Prelude.{◌≡◌, ◌++◌, OnOk};
 ghost use Rattle.explanations.specs.Sentences.{response_line};
-ghost use Rattle.value_explanations.specs.ValueSentences.{between_text, early_text, is_same};
-ghost use Rattle.value_explanations.specs.ValueSentences.{late_text, no_write_text, opposed_text};
+ghost use Rattle.value_explanations.specs.ValueSentences.{between_text, circle_text, early_text};
+ghost use Rattle.value_explanations.specs.ValueSentences.{is_same, late_text, no_write_text, opposed_text};
 ghost use Rattle.value_explanations.specs.ValueSentences.{precedence_text, said_line, side_text};
 ghost use Rattle.value_explanations.specs.ValueSentences.{unsaid_line, value_reason_text};
 
@@ -17,6 +17,14 @@ use tag::{Key, Memory};
 const CIRCLE: &str =
     "\n  in an order the reads of a value stand between its write and the next write, \
      so each of these two values would have to come before the other\n";
+
+/// Says why two families that must precede each other have no order.
+#[tactic(auto, unfolding(crate::specs::ValueSentences::circle_text))]
+pub fn append_circle(text: &mut Vec<u8>) -> Result<(), Memory>
+    ensures { OnOk result (text.new.items ≡ text.old.items ++ circle_text) }
+{
+    append(text, CIRCLE)
+}
 
 /// The line of the call's response.
 fn answered_line(hall: &HallRows<'_>, call: &Call<'_>) -> u64

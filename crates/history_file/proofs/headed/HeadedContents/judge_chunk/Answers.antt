@@ -3,5 +3,5 @@ use Rattle.file_format.specs.Lines.{LineShows}
 use Rattle.history_file.proofs.Bodies.{shown_alike}
 use Rattle.history_file.proofs.headed.HeadedContents.judge_chunk.Goals as goal
 
-pub returns-in-Some : goal.returns-in-Some
-returns-in-Some g c = shown_alike (λ meaning. LineShows meaning) _ _ (sym (g.met.B.Body.says c.args.under)) (c.args.chunk.now ∷ []) c.judge_with-run.result c.judge_with-run.ensures
+pub returns : goal.returns
+returns g c = shown_alike (λ meaning. LineShows meaning) _ _ (sym (g.met.B.Body.says c.args.under)) (c.args.chunk.now ∷ []) c.judge.result c.judge.ensures

@@ -5,8 +5,8 @@ use Rattle.file_format.proofs.PieceByPiece.{joined_more}
 use Rattle.history_file.specs.Making.{MakesOrders}
 use Rattle.history_file.proofs.order_format.OrdersBody.follow.Goals as goal
 
-pub returns : goal.returns
-returns c = λ header pieces made fits counted.
+pub returns-clause-follows : goal.returns-clause-follows
+returns-clause-follows c = λ header pieces made fits counted.
     let piece = c.args.piece in
     let before : MakesOrders header pieces (record { orders = c.self.inside.orders; calls = c.self.inside.calls }) = rw (← c.self.view_is) at made in
     let grown = sum_by-append (λ (p : KeyOrder). length p.order) pieces (piece ∷ []) in

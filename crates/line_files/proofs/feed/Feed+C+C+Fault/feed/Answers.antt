@@ -17,3 +17,9 @@ returns-in-Err-clause-fed g c = λ bytes s.
     let old = c.args.self.now in
     let P : Vec ℕ Global → Type 0 = λ rest. AreRead g.C.Contents.Reads bytes old.progress rest.items in
     c.in-Err.ensures.reads bytes (subst P (sym c.replace-rest.ensures.value) (read_by g.C.Contents.Reads bytes old s))
+
+pub returns-in-Err-clause-before : goal.returns-in-Err-clause-before
+returns-in-Err-clause-before g c = λ bytes s.
+    let old = c.args.self.now in
+    let P : Vec ℕ Global → Type 0 = λ rest. AreRead g.C.Contents.Reads bytes old.progress rest.items in
+    c.in-Err.ensures.before bytes (subst P (sym c.replace-rest.ensures.value) (read_by g.C.Contents.Reads bytes old s))

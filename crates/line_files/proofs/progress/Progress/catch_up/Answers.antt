@@ -1,8 +1,11 @@
 use Rattle.std.proofs.Common.{◌<◌, ◌≤◌, ◌++◌, length, sym, subst, arith}
 use Rattle.std.proofs.lemmas.Result.{err_from_is_err_and}
 use Rattle.counted_devices.specs.FirstFaults.{FaultSoFar, faults_by}
+use Rattle.counted_devices.specs.ReadFaults.{IsFaultBy}
 use Rattle.counted_devices.specs.declared.read_fault.FaultKind.{FaultKind}
 use Rattle.line_files.proofs.Advancing.{so_far, stays, long_so_far, all_read}
+use Rattle.line_files.specs.LinesRead.{HasReadBefore}
+use Rattle.line_files.proofs.Leaving.{leaves_in, leaves_long}
 use Rattle.line_files.proofs.progress.Progress.catch_up.Goals as goal
 
 pub returns-in_err-record-clause-reads : goal.returns-in_err-record-clause-reads
@@ -38,3 +41,16 @@ returns-clause-reads g c = λ bytes a.
     let rest = c.args.judged.rest in
     let short : length rest.items ≤ 65536 = omega (arith, c.if-len-gt-LONGEST.false, c.len.ensures, rest.ok.0) in
     (all_read g.C.Contents.Shows g.C.Contents.Reads g.C.Contents.context g.C.Contents.rules bytes c.args.self.now c.record.new.self c.args.judged a c.in_ok-record.ensures.read, short)
+
+pub returns-in_err-record-clause-before : goal.returns-in_err-record-clause-before
+returns-in_err-record-clause-before g c = λ bytes a.
+    let p = err_from_is_err_and c.from_residual.result c.from_residual.ensures.1 in
+    let fault = c.in_err-record.field-0.0 in
+    rw (p.1, p.2) (leaves_in g.C.Contents.Reads bytes (a.read ++ a.waiting) c.args.judged.rest.items fault.line fault.kind c.record.new.self.contents a.splits (c.in_err-record.ensures.before a.waiting a.shown a.read a.at))
+
+pub returns-then-len-gt-LONGEST-clause-before : goal.returns-then-len-gt-LONGEST-clause-before
+returns-then-len-gt-LONGEST-clause-before g c = λ bytes a.
+    let rest = c.args.judged.rest in
+    let r = all_read g.C.Contents.Shows g.C.Contents.Reads g.C.Contents.context g.C.Contents.rules bytes c.args.self.now c.record.new.self c.args.judged a c.in_ok-record.ensures.read in
+    let P : FaultKind g.row.C-Fault.Denot → Type 0 = λ k. IsFaultBy (λ _. HasReadBefore g.C.Contents.Reads bytes c.at.result.line c.record.new.self.contents) ⊥ k in
+    subst P (sym c.at.ensures.kind) (leaves_long g.C.Contents.Reads bytes r.lines rest.items c.at.result.line c.record.new.self.contents r.splits (omega (arith, c.at.ensures.line, r.at.counted)) r.at.made)

@@ -7,6 +7,7 @@ use Rattle.std.proofs.lemmas.List.{nil_from_length}
 use Rattle.std.proofs.lemmas.Result.{err_from_is_err_and}
 use Rattle.counted_devices.specs.declared.judgement.Judgement.{Judgement}
 use Rattle.line_files.proofs.LineByLine.{Goes, Goes-start, Goes-run, Goes-stop, Goes-end}
+use Rattle.line_files.proofs.Leaving.{Goes-leave}
 use Rattle.line_files.proofs.progress.Progress.record.Goals as goal
 
 -- what the runs hold, one after the other
@@ -69,3 +70,14 @@ returns-clause-lines g c =
     let at = c.loop-run in
     let empty : into_iter_items at.run-iterator ≡ [] = nil_from_length _ (sym at.invariant.known ∙ c.in-None.ensures.steps.0) in
     omega (arith, at.invariant.room, ap length (ap in_runs empty))
+
+pub returns-in_err-record_run-clause-before : goal.returns-in_err-record_run-clause-before
+returns-in_err-record_run-clause-before g c =
+    let p = err_from_is_err_and c.from_residual.result c.from_residual.ensures.1 in
+    let at = c.loop-run in
+    let run = c.in-Some.run' in
+    let left = in_runs (into_iter_items c.next.new.self) in
+    let runs : in_runs (into_iter_items at.run-iterator) ≡ run.items ++ left = ap in_runs c.in-Some.ensures.steps.0 in
+    λ lines shown before was.
+    let P : List (Judgement g.row.C-Item.Denot g.row.C-Fault.Denot) → Type 0 = λ js. Goes g.C.Contents.rules g.C.Contents.Reads g.C.Contents.context g.C.Contents.Shows lines c.args.self.now at.self js in
+    rw (p.1, p.2) (Goes-leave g.C.Contents.rules g.C.Contents.Reads g.C.Contents.context g.C.Contents.Shows lines c.args.self.now at.self run.items left (subst P runs (at.invariant.goes lines shown)) c.record_run.new.self c.in_err-record_run.field-0.0 c.in_err-record_run.ensures.before before was)

@@ -4,6 +4,7 @@ use Rattle.std.proofs.lemmas.List.{nil_from_length}
 use Rattle.std.proofs.lemmas.Result.{err_from_is_err_and}
 use Rattle.counted_devices.specs.declared.judgement.Judgement.{Judgement}
 use Rattle.line_files.proofs.LineByLine.{Goes, Goes-start, Goes-run, Goes-stop, Goes-end, one_judged}
+use Rattle.line_files.proofs.Leaving.{one_leaves, Goes-leave}
 use Rattle.line_files.proofs.progress.Progress.record_run.Goals as goal
 
 pub loop-judgement-init : goal.loop-judgement-init
@@ -55,3 +56,14 @@ returns-clause-read g c =
     λ lines shown.
     let P : List (Judgement g.row.C-Item.Denot g.row.C-Fault.Denot) → Type 0 = λ js. Goes g.C.Contents.rules g.C.Contents.Reads g.C.Contents.context g.C.Contents.Shows lines old at.self js in
     Goes-end g.C.Contents.rules g.C.Contents.Reads g.C.Contents.context g.C.Contents.Shows lines old at.self (subst P empty (at.invariant.goes lines shown))
+
+pub returns-in_err-add_judgement-clause-before : goal.returns-in_err-add_judgement-clause-before
+returns-in_err-add_judgement-clause-before g c =
+    let at = c.loop-judgement in
+    let j = c.in-Some.judgement in
+    let old = c.args.self.now in
+    let steps : into_iter_items at.judgement-iterator ≡ j ∷ into_iter_items c.next.new.self = c.in-Some.ensures.steps.0 in
+    let p = err_from_is_err_and c.from_residual.result c.from_residual.ensures.1 in
+    λ lines shown before was.
+    let P : List (Judgement g.row.C-Item.Denot g.row.C-Fault.Denot) → Type 0 = λ js. Goes g.C.Contents.rules g.C.Contents.Reads g.C.Contents.context g.C.Contents.Shows lines old at.self js in
+    rw (p.1, p.2) (Goes-leave g.C.Contents.rules g.C.Contents.Reads g.C.Contents.context g.C.Contents.Shows lines old at.self (j ∷ []) (into_iter_items c.next.new.self) (subst P steps (at.invariant.goes lines shown)) c.add_judgement.new.self c.in_err-add_judgement.field-0.0 (one_leaves g.C.Contents.rules g.C.Contents.Reads g.C.Contents.context g.C.Contents.Shows at.self j (Err c.in_err-add_judgement.field-0.0) c.add_judgement.new.self c.in_err-add_judgement.ensures.before) before was)

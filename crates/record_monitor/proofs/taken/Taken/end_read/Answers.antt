@@ -1,8 +1,10 @@
-use Rattle.std.proofs.Common.{ℕ, ◌<◌, ◌+◌, List, [], ◌∷◌, ◌++◌, length, sym, ◌∙◌, subst, arith}
+use Rattle.std.proofs.Common.{ℕ, ◌≡◌, ◌<◌, ◌+◌, Some, List, [], ◌∷◌, ◌++◌, length, sym, ◌∙◌, subst, arith}
+use Rattle.std.specs.List.{slice_get}
 use Rattle.std.specs.Option.{option_copied}
 use Rattle.std.proofs.lemmas.Result.{on_ok_weaker}
+use Rattle.tag.specs.declared.actions.Action.TheVariants.{Read}
 use Rattle.tag.specs.declared.actions.Returned.TheVariants.{Value}
-use Rattle.recorder.specs.declared.row.Row.TheVariants.{Respond}
+use Rattle.recorder.specs.declared.row.Row.TheVariants.{Invoke, Respond}
 use Rattle.monitored_key.specs.Maps.{entry_at}
 use Rattle.record_monitor.specs.Waiting.{AreWaiting}
 use Rattle.record_monitor.proofs.Entries.{lacks_entry, still_entry}
@@ -47,8 +49,9 @@ returns-in-Some-clause-keys c =
     record {
       knows = record {
         given_up = given_up_on old.give_up rows (Respond op (Value value)) gone k.knows.given_up;
-        keys = h old.give_up rows gone b.key op b.client formed (sym k.at)
-            (waiting_key rows formed op b.client begun.place b.key at old.keys.numbers gone reads waiting c.in-Some.number e) at may
+        keys = h old.give_up rows gone b.key formed (sym k.at)
+            (waiting_key rows formed op b.client begun.place b.key at old.keys.numbers gone reads waiting c.in-Some.number e)
+            (subst (λ (n : ℕ). slice_get rows begun.place ≡ Some (Invoke op n b.key Read)) b.whose at) may
             k.knows.given_up
             (waiting_stays rows formed op b.client begun.place b.key at old.keys.numbers gone reads waiting c.in-Some.number e)
             k.knows.keys;

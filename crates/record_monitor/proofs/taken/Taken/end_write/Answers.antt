@@ -1,8 +1,8 @@
-use Rattle.std.proofs.Common.{ℕ, List, [], ◌∷◌, ◌++◌, sym, subst, refl}
+use Rattle.std.proofs.Common.{ℕ, ◌≡◌, Some, List, [], ◌∷◌, ◌++◌, sym, subst, refl}
+use Rattle.std.specs.List.{slice_get}
 use Rattle.std.proofs.lemmas.Result.{on_ok_weaker}
 use Rattle.tag.specs.declared.actions.Action.TheVariants.{Write}
 use Rattle.tag.specs.declared.actions.Returned.TheVariants.{Written}
-use Rattle.tag.proofs.Lists.{Contains-slice_get}
 use Rattle.recorder.specs.declared.row.Row.TheVariants.{Invoke, Respond}
 use Rattle.monitored_key.specs.Maps.{entry_at}
 use Rattle.record_monitor.specs.Waiting.{AreWaiting}
@@ -27,8 +27,8 @@ returns-clause-keys c =
     record {
       knows = record {
         given_up = given_up_on old.give_up rows (Respond op Written) gone up;
-        keys = h old.give_up rows gone b.key v.0 b.client formed (sym k.at) b.key_is
-            (Contains-slice_get rows begun.place (Invoke op b.client b.key (Write v.0)) v.1) may
+        keys = h old.give_up rows gone b.key v.0 formed (sym k.at) b.key_is
+            (subst (λ (n : ℕ). slice_get rows begun.place ≡ Some (Invoke op n b.key (Write v.0))) b.whose v.1) may
             (write_stays rows formed op old.keys.numbers begun b old.give_up gone up v.0 v.1) k.knows.keys;
         waiting = subst (λ (ks : List (List ℕ)). AreWaiting (rows ++ Respond op Written ∷ []) ks gone (entry_at old.reads.entries))
             (sym c.end_write.ensures.numbers)

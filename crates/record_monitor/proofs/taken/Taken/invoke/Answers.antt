@@ -21,16 +21,14 @@ pub begin-requires-2-clause-may : goal.begin-requires-2-clause-may
 begin-requires-2-clause-may c =
     let old = c.args.self.now in
     let k = c.requires.some.keeps in
-    let rows = c.requires.some.rows in (
-      c.args.client,
-      record {
-        rows = rows;
-        formed = c.requires.some.formed;
-        gone = k.gone;
-        keeps = with_calls (length rows) rows k.gone old c.begin.new.self k.keys;
-        may = (c.in_ok-begin.ensures.row rows c.args.key.now c.requires.some.formed k.opens).0;
-      },
-    )
+    let rows = c.requires.some.rows in
+    record {
+      rows = rows;
+      formed = c.requires.some.formed;
+      gone = k.gone;
+      keeps = with_calls (length rows) rows k.gone old c.begin.new.self k.keys;
+      may = (c.in_ok-begin.ensures.row rows c.args.key.now c.requires.some.formed k.opens).0;
+    }
 
 pub begin-requires-2-clause-small : goal.begin-requires-2-clause-small
 begin-requires-2-clause-small c =
@@ -49,7 +47,7 @@ end_row-requires-clause-some c =
     let k = c.requires.some.keeps in
     let rows = c.requires.some.rows in
     let row = Invoke c.args.op c.args.client c.args.key.now c.args.action.now in
-    let after = c.in_ok-begin-2.ensures.keys rows k.gone c.args.client c.requires.some.formed
+    let after = c.in_ok-begin-2.ensures.keys rows k.gone c.requires.some.formed
     (c.in_ok-begin.ensures.row rows c.args.key.now c.requires.some.formed k.opens).0
     (with_calls (length rows) rows k.gone old c.begin.new.self k.keys) in
     (rows ++ row ∷ [], k.gone, at_place (length rows) (rows ++ row ∷ []) k.gone c.begin-2.new.self after)
@@ -60,7 +58,7 @@ end_row-requires-clause-small c =
     let k = c.requires.some.keeps in
     let rows = c.requires.some.rows in
     let row = Invoke c.args.op c.args.client c.args.key.now c.args.action.now in
-    let after = c.in_ok-begin-2.ensures.keys rows k.gone c.args.client c.requires.some.formed
+    let after = c.in_ok-begin-2.ensures.keys rows k.gone c.requires.some.formed
     (c.in_ok-begin.ensures.row rows c.args.key.now c.requires.some.formed k.opens).0
     (with_calls (length rows) rows k.gone old c.begin.new.self k.keys) in
     small_place rows (rows ++ row ∷ []) k.gone c.begin-2.new.self c.requires.some.formed k.few after
@@ -73,7 +71,7 @@ returns c = λ rows formed k.
     let row = Invoke op c.args.client key c.args.action.now in
     let taken = c.in_ok-begin.ensures.row rows key formed k.opens in
     let may = taken.0 in
-    let after = c.in_ok-begin-2.ensures.keys rows k.gone c.args.client formed may
+    let after = c.in_ok-begin-2.ensures.keys rows k.gone formed may
     (with_calls (length rows) rows k.gone old c.begin.new.self k.keys) in
     let ended = c.end_row.ensures.keys (rows ++ row ∷ []) k.gone (formed_next rows row formed may)
     (one_longer rows row ∙ ap (λ (n : ℕ). n + 1) (sym after.at))
@@ -85,6 +83,6 @@ returns c = λ rows formed k.
           (begun_more rows row old.keys.numbers c.begin-2.new.self.keys.numbers old.calls c.begin.new.self
           c.in_ok-begin-2.ensures.stay k.begun op
           c.args.client _ _ (may.0 ∙ sym k.opens.begun) c.in_ok-begin.ensures.ok
-          (begun_now rows c.begin-2.new.self.keys.numbers op c.args.client key c.args.action.now _ k.keys.at c.in_ok-begin-2.ensures.here))
+          (begun_now rows c.begin-2.new.self.keys.numbers op c.args.client key c.args.action.now _ k.keys.at refl c.in_ok-begin-2.ensures.here))
           (omega (arith, k.few, calls, may.0, c.call_number-number.type_inv, c.call_number-number.ensures)),
     )

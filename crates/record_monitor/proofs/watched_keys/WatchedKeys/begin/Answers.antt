@@ -6,7 +6,7 @@ use Rattle.tag.proofs.Lists.{slice_get-push_left}
 use Rattle.record_monitor.specs.declared.watched_keys.WatchedKeys.{WatchedKeys}
 use Rattle.record_monitor.proofs.Adding.{number_seen, number_there, number_unseen}
 use Rattle.record_monitor.proofs.KeySteps.{begin_of_key, set_changes}
-use Rattle.record_monitor.proofs.OneKey.{if_of_match}
+use Rattle.record_monitor.proofs.OneKey.{follows_now}
 use Rattle.record_monitor.proofs.Steps.{on_ok_two}
 use Rattle.record_monitor.proofs.watched_keys.WatchedKeys.begin.Goals as goal
 
@@ -26,11 +26,11 @@ returns-then-number-len-clause-watched c =
     c.if-number-len.true in
     let changes = set_changes old.watched.items c.args.number was now (omega
     (arith, count, c.if-number-len.true)) c.index_mut.ensures.value in
-    on_ok_two c.begin.result (λ follows goes most rows gone client formed e may are a.
-    begin_of_key most rows gone c.args.key.now client c.args.op c.args.action.now c.args.number old new was now formed may at a refl
+    on_ok_two c.begin.result (λ follows goes most rows gone formed e may are a.
+    begin_of_key most rows gone c.args.key.now c.args.call.now.client c.args.call.now.op c.args.action.now c.args.number old new was now formed may at a refl
     changes refl
-    (follows rows c.args.key.now gone client formed e may are
-    (if_of_match _ _ was.state (a.each c.args.number c.args.key.now was at changes.before).state)) goes)
+    (follows rows c.args.key.now gone formed e may are
+    (follows_now most rows gone old.reports.items c.args.number c.args.key.now was (a.each c.args.number c.args.key.now was at changes.before))) goes)
     c.begin.ensures.follows c.begin.ensures.goes
 
 pub add-requires-clause-unseen : goal.add-requires-clause-unseen

@@ -8,27 +8,29 @@ use Rattle.recorder.specs.declared.row.Row.TheVariants.{Invoke}
 use Rattle.record_monitor.specs.declared.watched_keys.WatchedKeys.{WatchedKeys}
 use Rattle.record_monitor.specs.Ended.{HasEnded}
 use Rattle.record_monitor.proofs.KeySteps.{answer_of_key, ended_of_key, set_changes}
-use Rattle.record_monitor.proofs.OneKey.{ChangesOne, if_of_match}
+use Rattle.record_monitor.proofs.OneKey.{ChangesOne, follows_now}
 use Rattle.record_monitor.proofs.watched_keys.WatchedKeys.end_read.Goals as goal
 
 pub returns-in_ok-report-clause-watched : goal.returns-in_ok-report-clause-watched
-returns-in_ok-report-clause-watched c = λ most rows gone key op client formed e at begun may up stays a.
+returns-in_ok-report-clause-watched c = λ most rows gone key formed e at begun may up stays a.
+    let call = c.args.call.now in
     let old = c.args.self.now in
     let was = c.index_mut.result.now in
     let now = c.end_read.new.self in
     let value = option_copied c.args.value in
     let changes = set_changes old.watched.items c.args.number was now c.requires.there c.index_mut.ensures.value in
     let ended = subst (HasEnded most _ c.args.place key gone was now) c.in-Some.is
-    (c.in_ok-finding.ensures most rows key gone op client formed e begun may up stays
-    (if_of_match _ _ was.state (a.each c.args.number key was at changes.before).state)) in
-    ended_of_key most rows gone key client op Read (Value value) c.args.number old c.report.new.self was now formed may at
-    (Contains-slice_get rows c.args.begin (Invoke op client key Read) begun) a c.in_ok-report.ensures.numbers
+    (c.in_ok-finding.ensures most rows key gone formed e begun may up stays
+    (follows_now most rows gone old.reports.items c.args.number key was (a.each c.args.number key was at changes.before))) in
+    ended_of_key most rows gone key call.client call.op Read (Value value) c.args.number old c.report.new.self was now formed may at
+    (Contains-slice_get rows call.begun (Invoke call.op call.client key Read) begun) a c.in_ok-report.ensures.numbers
     (subst (λ v. ChangesOne old.watched.items v.items c.args.number was now)
     (sym c.in_ok-report.ensures.watched) changes) stays c.args.place
     c.in-Some.finding c.in_ok-report.ensures.reports ended
 
 pub returns-in_default-clause-watched : goal.returns-in_default-clause-watched
-returns-in_default-clause-watched c = λ most rows gone key op client formed e at begun may up stays a.
+returns-in_default-clause-watched c = λ most rows gone key formed e at begun may up stays a.
+    let call = c.args.call.now in
     let old = c.args.self.now in
     let was = c.index_mut.result.now in
     let now = c.end_read.new.self in
@@ -41,7 +43,7 @@ returns-in_default-clause-watched c = λ most rows gone key op client formed e a
     } in
     let changes = set_changes old.watched.items c.args.number was now c.requires.there c.index_mut.ensures.value in
     let ended = subst (HasEnded most _ c.args.place key gone was now) c.in_default.is
-    (c.in_ok-finding.ensures most rows key gone op client formed e begun may up stays
-    (if_of_match _ _ was.state (a.each c.args.number key was at changes.before).state)) in
-    answer_of_key most rows gone key client op Read (Value value) c.args.number old new was now formed may at
-    (Contains-slice_get rows c.args.begin (Invoke op client key Read) begun) a refl changes stays refl ended.0 ended.1
+    (c.in_ok-finding.ensures most rows key gone formed e begun may up stays
+    (follows_now most rows gone old.reports.items c.args.number key was (a.each c.args.number key was at changes.before))) in
+    answer_of_key most rows gone key call.client call.op Read (Value value) c.args.number old new was now formed may at
+    (Contains-slice_get rows call.begun (Invoke call.op call.client key Read) begun) a refl changes stays refl ended.0 ended.1

@@ -5,7 +5,7 @@ use Rattle.tag.proofs.Lists.{Contains-slice_get}
 use Rattle.recorder.specs.declared.row.Row.TheVariants.{Invoke}
 use Rattle.record_monitor.specs.declared.watched_keys.WatchedKeys.{WatchedKeys}
 use Rattle.record_monitor.proofs.KeySteps.{given_up_of_key, set_changes}
-use Rattle.record_monitor.proofs.OneKey.{if_of_match}
+use Rattle.record_monitor.proofs.OneKey.{follows_now}
 use Rattle.record_monitor.proofs.watched_keys.WatchedKeys.give_up.Goals as goal
 
 pub returns-clause-watched : goal.returns-clause-watched
@@ -23,4 +23,4 @@ returns-clause-watched c = λ most rows gone key op client formed at begun pendi
     given_up_of_key most rows gone key client op c.args.number old new was now formed at
     (Contains-slice_get rows c.args.begin (Invoke op client key Read) begun) a refl changes refl pending
     (c.give_up.ensures.follows rows key gone op client formed begun pending stays
-    (if_of_match _ _ was.state (a.each c.args.number key was at changes.before).state)) c.give_up.ensures.goes
+    (follows_now most rows gone old.reports.items c.args.number key was (a.each c.args.number key was at changes.before))) c.give_up.ensures.goes

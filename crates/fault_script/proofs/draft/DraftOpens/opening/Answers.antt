@@ -1,6 +1,6 @@
 use Rattle.std.proofs.Common.{[], refl}
 use Rattle.fault_script.specs.Scripts.{no_line}
-use Rattle.fault_script.proofs.draft.DraftContents.opening.Goals as goal
+use Rattle.fault_script.proofs.draft.DraftOpens.opening.Goals as goal
 
 pub returns : goal.returns
 returns c = record {

@@ -1,5 +1,5 @@
 use Rattle.record_monitor.proofs.Steps.{given_up_step, if_some}
-use Rattle.record_monitor.proofs.watched.Watched.give_up.Goals as goal
+use Rattle.record_monitor.proofs.watched.Watched.give_up_state.Goals as goal
 
 pub returns-in-Some-clause-follows : goal.returns-in-Some-clause-follows
 returns-in-Some-clause-follows c = λ rows key gone op client formed at pending stays f.

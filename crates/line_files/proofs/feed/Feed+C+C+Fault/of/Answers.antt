@@ -2,7 +2,7 @@ use Rattle.std.proofs.Common.{ℕ, List, [], length, ap, sym, subst, refl, arith
 use Rattle.counted_devices.specs.Cuts.{Splits}
 use Rattle.counted_devices.proofs.CutLemmas.{Splits-none}
 use Rattle.line_files.proofs.Ends.{no_byte}
-use Rattle.line_files.proofs.feed.Feed+C+C+Fault.new.Goals as goal
+use Rattle.line_files.proofs.feed.Feed+C+C+Fault.of.Goals as goal
 
 pub returns : goal.returns
 returns g c =
@@ -10,7 +10,7 @@ returns g c =
     record {
       lines = [];
       splits = subst S (sym c.new.ensures.items) (Splits-none [] no_byte);
-      at = record { made = c.opening.ensures; counted = refl };
+      at = record { made = c.requires; counted = refl };
       short = omega (arith, ap length c.new.ensures.items);
       fed = refl;
       sound = refl;
