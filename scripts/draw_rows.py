@@ -23,7 +23,8 @@ PARAGRAPHS = {"hint", "sum", "missing", "rest", "why", "shown"}
 
 def left_out(kind):
     """The lines that a row of that kind doesn't say."""
-    return {"page": set(), "sums": set(LEADS.values())}.get(kind, {"title", "heading 1"})
+    leads = set(LEADS.values())
+    return {"page": set(), "sums": leads, "legend": leads | PARAGRAPHS}.get(kind, {"title", "heading 1"})
 
 
 def many_keys(line):
@@ -47,6 +48,7 @@ def files_of(words, text):
 def told(page, kind):
     """The title, the headings and the paragraphs of the page."""
     outside = re.sub("<svg .*?</svg>", "", page, flags=re.S)
+    outside = re.sub(r'<a href="(#call-[^"]*)">([^<]*)</a>', r"\2[\1]", outside)
     lines = []
     for name, kind_of, text in re.findall(r'<(title|h1|h2|p)(?: class="([^"]*)")?>([^<]*)', outside):
         lead = LEADS.get(name, kind_of)
@@ -75,12 +77,12 @@ def full_page():
     )
     wanted = [
         "status 0",
-        "sum: Keys: 3, refused: 0",
+        "sum: Keys refused: 0 of 3",
         f"rest: {NOT_DRAWN}: 1, refused ones among them: 0",
         "heading 2: a: yes",
-        "shown: Calls shown: 10000 of 10000",
+        "shown: Calls shown: 10000 of 10000, from call 0 to call 9999",
         "heading 2: b: yes",
-        "shown: Calls shown: 10000 of 10000",
+        "shown: Calls shown: 10000 of 10000, from call 10000 to call 19999",
     ]
     return "a full page", "keys", ["draw", "h", "--calls", "10000"], '{"abd":"history","version":1}\n' + calls, wanted
 

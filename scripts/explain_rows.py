@@ -2,7 +2,8 @@
 
 Goes over the worked rows of explain.rows, decide.rows and values.rows in crates/test_commands/data: runs `abd explain`, `abd decide` or
 `abd justify --by values` on the history of each, and its orders if it has some, and compares its status and what it prints with what the row
-expects. What the program says below the line of a fault is left out: those rows are why_histories.rows and its siblings.
+expects. What the program says below the line of a fault is left out there. Of each faulty file of why_histories.rows and why_orders.rows it
+compares that too, once with the file's name and once through a pipe.
 """
 
 import os
@@ -50,27 +51,47 @@ def said_of(abd, asked, lines):
         return said + ran_so(abd, place, "check", ["h", "o"])[0]
 
 
+def whys_of(abd, asked, lines):
+    """What the program says of the faulty file, by its name and through a pipe."""
+    kind, *options = asked.split(" ")
+    text = lines.rstrip() if "cut" in options else lines
+    with tempfile.TemporaryDirectory() as place:
+        for name, content in (("h", '{"abd":"history","version":1}\n'), ("f", text)):
+            with open(f"{place}/{name}", "w", encoding="utf-8") as file:
+                file.write(content)
+        words = ["explain", "h"] if kind == "why-orders" else ["explain"]
+        for name, given in (("f", ""), ("/dev/stdin", text)):
+            ran = subprocess.run([abd, *words, name], cwd=place, input=given.encode(), capture_output=True)
+            yield ran.stderr.decode().replace(f"abd: {name}: ", "", 1)
+
+
 def is_of_files(row):
     """Whether the row has a whole file, and writes to one."""
     return not re.search(r"each-|<", row)
 
 
-def main():
-    abd = os.path.abspath(sys.argv[1])
+def rows_of(*names):
+    """The rows of these files."""
     rows = []
-    for name in ("explain.rows", "decide.rows", "values.rows"):
+    for name in names:
         with open(f"{DATA}/{name}", encoding="utf-8") as file:
             rows += file.read().split("\n### ")[1:]
-    rows = [row for row in rows if is_of_files(row)]
+    return rows
+
+
+def main():
+    abd = os.path.abspath(sys.argv[1])
+    rows = [row for row in rows_of("explain.rows", "decide.rows", "values.rows") if is_of_files(row)]
+    whys = rows_of("why_histories.rows", "why_orders.rows")
     bad = 0
-    for row in rows:
+    for row in rows + whys:
         title, asked, rest = row.split("\n", 2)
         lines, wanted = rest.split("---\n", 1)
-        found = said_of(abd, asked, lines)
-        if found != wanted:
-            bad += 1
-            print(f"{title}:\n{found}--- and not\n{wanted}")
-    print(f"{len(rows)} rows, {bad} otherwise")
+        for found in whys_of(abd, asked, lines) if row in whys else [said_of(abd, asked, lines)]:
+            if found != wanted:
+                bad += 1
+                print(f"{title}:\n{found}--- and not\n{wanted}")
+    print(f"{len(rows) + len(whys)} rows, {bad} otherwise")
     sys.exit(bad != 0)
 
 

@@ -111,22 +111,54 @@ def check_order(own, order):
 
 def check_calls(section, own, most, of):
     """The picture of a section shows these calls, or as many as it may. The picture, and its bars by call."""
-    picture = next(section.iter("svg"))
-    shown, total = [int(it) for it in elements(section, "p", "shown")[0].text.split(": ")[1].split(" of ")]
+    picture = elements(section, "div", "picture")[0]
+    said = elements(section, "p", "shown")[0].text
+    shown, total = [int(it) for it in re.match(r"Calls shown: (\d+) of (\d+)", said).groups()]
     bars = {named(it)[0]: it for it in picture.iter("g")}
+    ends = re.search(r", from call (\d+) to call (\d+)", said)
+    expect([int(it) for it in ends.groups()] == [min(bars), max(bars)] if bars else not ends, "first and last call of", of)
     expect(total == len(own) and shown == len(bars) and shown == len(elements(picture, "g")), "calls of", of)
     expect(set(bars) <= set(own) and (shown == most or set(bars) == set(own)), "calls shown of", of)
-    client_at = {int(it.text[7:]): number(it, "x") for it in elements(picture, "text", "client")}
+    client_at = {int(it.text.split(" ")[-1]): number(it, "x") for it in elements(picture, "text", "client")}
     row_of = {int(it.text[5:]): number(it, "y") - 4 for it in elements(picture, "text", "line")}
     for op, bar in bars.items():
         expect(own[op]["kind"] in bar.get("class"), "kind of", op)
         check_bar(bar, own[op], client_at, row_of)
     expect(len(elements(section, "tr")) == shown + 1, "table of", of)
+    check_gaps(picture, bars, own, row_of)
+    check_links(section, bars)
     return picture, bars
 
 
+def check_gaps(picture, bars, own, row_of):
+    """Where calls are left out, a mark says how many, in a row of its own between those of the calls beside them."""
+    runs = []
+    for place, op in enumerate(sorted(own)):
+        if op not in bars:
+            if runs and runs[-1][1] == place - 1:
+                runs[-1][1:] = [place, runs[-1][2] + 1]
+            else:
+                runs.append([op, place, 1])
+    marks = sorted(((number(it, "y") - 4, it.text) for it in elements(picture, "text", "omitted")))
+    expect([text for _, text in marks] == [f"\u22ee {many} call{'s' * (many > 1)}" for _, _, many in runs], "calls left out", marks, "of", runs)
+    for (y, _), (first, _, _) in zip(marks, runs):
+        rows = {line: row for line, row in row_of.items() if row == y}
+        above = [row for line, row in row_of.items() if line < own[first]["begins"]]
+        below = [row for line, row in row_of.items() if line > own[first]["begins"]]
+        expect(not rows and max(above, default=0) < y < min(below, default=y + 1), "row of the calls left out from", first)
+
+
+def check_links(section, bars):
+    """Each call that a sentence links leads to its own bar."""
+    places = {it.get("id"): op for op, it in bars.items()}
+    expect(len(places) == len(bars), "places of bars", places)
+    for line in elements(section, "p", "why"):
+        for link in line.iter("a"):
+            expect(places.get(link.get("href")[1:]) == int(link.text), "link of", link.text, link.get("href"))
+
+
 def check_key(section, calls, orders):
-    key, verdict = section.find("h2").text.split(": ", 1)
+    key, verdict = next(section.iter("h2")).text.split(": ", 1)
     own = {op: call for op, call in calls.items() if call["key"] == key}
     picture, bars = check_calls(section, own, 200, key)
     if verdict in ("yes", "atomic"):
@@ -194,7 +226,7 @@ def check_page(text, history, orders):
 
 def red_calls(section):
     """The calls in the refusal's colour."""
-    return {named(bar)[0] for bar in elements(next(section.iter("svg")), "g", "faulty")}
+    return {named(bar)[0] for bar in elements(section, "g", "faulty")}
 
 
 def check_values(abd, history):
@@ -207,7 +239,7 @@ def check_values(abd, history):
     expect(drawn_status == status, "status", drawn_status)
     check_page(page, history, orders)
     for section in read_page(page).iter("section"):
-        key = section.find("h2").text.partition(": ")[0]
+        key = next(section.iter("h2")).text.partition(": ")[0]
         is_refused = decided[key]["verdict"] == "not atomic"
         expect(red_calls(section) == (set(decided[key]["calls"]) if is_refused else set()), "red calls of", key)
 
@@ -226,7 +258,7 @@ def check_whole_values(abd, history):
     refused = [it for it in decided if it["verdict"] == "not atomic"]
     expect(section.find("h2").text == "all keys: a key is " + ("refused" if refused else "undecided"), "heading", section.find("h2").text)
     expect(red_calls(section) == (set(refused[0]["calls"]) if refused else set()), "red calls of all keys")
-    expect(not elements(next(section.iter("svg")), "circle"), "points of all keys")
+    expect(not elements(section, "circle"), "points of all keys")
 
 
 def spoil(history, seed):
@@ -286,6 +318,13 @@ def count(trace, pattern):
     return len(re.findall(pattern, trace, re.M))
 
 
+def items(diagram, *kinds):
+    """The calls or the messages that the diagram lists; each can have the focus."""
+    found = [it for it in diagram if it.get("role") == "listitem" and it.get("class") in kinds]
+    expect(all(it.get("tabindex") == "0" and it.find("title").text for it in found), "items that have the focus", kinds)
+    return found
+
+
 def texts(diagram, kind):
     return ["".join(it.itertext()).strip() for it in elements(diagram, "text", kind)]
 
@@ -293,7 +332,7 @@ def texts(diagram, kind):
 def check_said(diagram, trace):
     """Numbers of messages, votes, and reasons of what was refused are those of the trace, in its order."""
     numbers = [int(one or other) for one, other in re.findall(r": message (\d+)$|message (\d+) gets one more copy$", trace, re.M)]
-    arrows = [it for it in diagram.iter("g") if it.get("class") in ("request", "reply")]
+    arrows = items(diagram, "request", "reply")
     expect([int(re.match(r"message (\d+): ", it.find("title").text).group(1)) for it in arrows] == numbers, "numbers of messages")
     expect([int("".join(it.find("text").itertext()).split(" ")[0]) for it in arrows] == numbers, "numbers at arrows")
     reasons = re.findall(r" (is refused: .*)$", trace, re.M)
@@ -323,6 +362,98 @@ def check_curtains(diagram, trace):
         expect(one == line or one.endswith("…") and line.startswith(one[:-1]), "sentence", one, "of", line)
 
 
+def message_of(arrow):
+    """The number of an arrow's message, as its label has it."""
+    return int("".join(arrow.find("text").itertext()).split(" ")[0])
+
+
+def calls_and_answers(trace):
+    """Of each message the call that it belongs to, and the message that it answers, if it does."""
+    calls, asked, under_way = {}, {}, {}
+    for line in trace.split("\n"):
+        begun = re.search(r"client (\d+) begins .*: call (\d+); it asks$", line)
+        sent = re.search(r"client (\d+) (?:asks|puts) .*: message (\d+)$", line)
+        answered = re.search(r"message (\d+) arrives: replica .* and answers: message (\d+)$", line)
+        if begun:
+            under_way[begun.group(1)] = int(begun.group(2))
+        elif sent:
+            calls[int(sent.group(2))] = under_way[sent.group(1)]
+        elif answered:
+            request, reply = int(answered.group(1)), int(answered.group(2))
+            calls[reply], asked[reply] = calls[request], request
+    return calls, asked
+
+
+def shown_bar(bar):
+    return [(it.tag, it.get("class"), it.get("x"), it.get("y"), it.get("points")) for it in bar if it.tag in ("rect", "polyline")]
+
+
+def check_lit(diagram, trace):
+    """What is seen alone of a call are its messages; of a message its call, and its answer or what it answers."""
+    calls, asked = calls_and_answers(trace)
+    arrows, bars = items(diagram, "request", "reply"), items(diagram, "reading", "writing")
+    groups = [next((it for it in one if it.get("class") == "lit"), None) for one in arrows + bars]
+    if len(elements(diagram, "line", "step")) > 1000:
+        expect(all(it is None for it in groups), "what is seen alone of a large diagram")
+        return
+    bar_of = {int(re.match(r"#(\d+) ", it.find("title").text).group(1)): it for it in bars}
+    pairs = set()
+    for one, lit in zip(arrows, groups):
+        message = message_of(one)
+        expect(lit.get("aria-hidden") == "true", "what is seen alone is told twice")
+        own = [shown_bar(it) for it in lit if it.get("class") in ("reading", "writing")]
+        expect(own == [shown_bar(bar_of[calls[message]])], "call of message", message)
+        pairs |= {(message, message_of(it)) for it in lit if it.get("class") in ("request", "reply")}
+    both = {pair for reply, request in asked.items() for pair in ((reply, request), (request, reply))}
+    expect(pairs == both, "answers", pairs ^ both)
+    for call, bar in bar_of.items():
+        lit = next(it for it in bar if it.get("class") == "lit")
+        own = [message_of(it) for it in lit if it.get("class") in ("request", "reply")]
+        expect(own == [message_of(it) for it in arrows if calls[message_of(it)] == call], "messages of call", call)
+
+
+def rows_across(arrow):
+    line = arrow.find("line")
+    return number(line, "y1"), number(line, "y2")
+
+
+def check_strips(root, diagram):
+    """On paper each row is in one strip, with the names above it; and a strip has the arrows that cross it."""
+    rows = [number(it, "y1") for it in elements(diagram, "line", "step")]
+    names = [it.text for it in elements(diagram, "text", "who") if number(it, "y") < 20]
+    strips = [it for it in root.iter("div") if (it.get("class") or "").startswith("strip ")]
+    expect(len(strips) == (-(-len(rows) // 32) if len(names) <= 10 else 0), "strips of", len(rows), "rows")
+    shown = []
+    for strip in strips:
+        above, below = strip.findall("svg")
+        left, top, width, height = [float(it) for it in below.get("viewBox").split()]
+        expect([it.text for it in elements(above, "text", "who") if number(it, "y") < number(above, "height")] == names, "names of a strip")
+        own = [number(it, "y1") for it in elements(below, "line", "step")]
+        expect(all(top < row < top + height for row in own) and height == 28 * len(own), "rows of a strip", own)
+        expect(not any(it.get("tabindex") or it.get("id") for it in strip.iter()), "places of a strip")
+        shown += own
+        crossing = [rows_across(it) for it in items(diagram, "request", "reply")]
+        crossing = [it for it in crossing if it[0] < top + height and it[1] > top]
+        expect([rows_across(it) for it in below if it.get("class") in ("request", "reply")] == crossing, "arrows of a strip")
+    expect(not strips or shown == rows, "rows of the strips", shown)
+
+
+def check_script_lines(root, words, script):
+    """The page has the script, with escapes for control characters, and each row links to its line of it."""
+    with open(script, encoding="utf-8", newline="") as file:
+        text = re.sub("\r?\n", "\n", file.read())
+    text = re.sub("[\0-\x09\x0b-\x1f\x7f-\x9f]", lambda it: f"\\u{ord(it[0]):04x}", text)
+    lines = text.removesuffix("\n").split("\n")
+    expect(words.removesuffix("\n").split("\n") == lines, "script", script)
+    places = {it.get("id"): it.text or "" for it in root.iter("span") if (it.get("id") or "").startswith("script-")}
+    expect(places == {f"script-{place}": line for place, line in enumerate(lines, 1)}, "lines of", script)
+    diagram = next(it for it in root.iter("svg") if it.get("role") == "list")
+    links = [it for it in diagram.findall("a") if it.find("text").get("class") == "source"]
+    for link in links:
+        expect(link.find("text").text == "script line " + link.get("href").removeprefix("#script-"), "link of a row", link.get("href"))
+    expect(len(links) == len(elements(diagram, "line", "step")), "links of rows", len(links))
+
+
 def check_trace(abd, script, history, orders):
     """The messages of a trace's page are those of the trace in words, and the pictures those of the history."""
     page = run(abd, "trace", script, "--draw", "--most", "10000")[1]
@@ -330,21 +461,25 @@ def check_trace(abd, script, history, orders):
     root = read_page(page)
     expect(len(next(root.iter("main")).findall("h2")) == 1, "heading of the history of", script)
     trace = run(abd, "trace", script)[1]
-    expect("".join(next(root.iter("pre")).itertext()) == trace, "trace of", script)
+    words, told = [("".join(it.itertext())) for it in root.iter("pre")]
+    expect(told == trace, "trace of", script)
+    check_script_lines(root, words, script)
     if "lines left out" in trace:
         return
-    diagram = next(it for it in root.iter("svg") if it.find("title").text.startswith("The messages"))
-    arrows = elements(diagram, "g", "request") + elements(diagram, "g", "reply")
+    diagram = next(it for it in root.iter("svg") if it.get("role") == "list")
+    arrows = items(diagram, "request", "reply")
     ends = [it.find("line").get("class") for it in arrows]
     expect(len(arrows) == count(trace, r": message \d+$") + count(trace, r"gets one more copy$"), "messages")
     arrived = ends.count("arriving") + ends.count("stale")
     expect(arrived == count(trace, r"^( |line \d+: )*message \d+ arrives: "), "messages that arrive")
     expect(ends.count("stale") == count(trace, r"; the reply is stale and changes nothing$"), "stale replies")
     expect(ends.count("lost") == count(trace, r"a copy of message \d+ is lost$"), "messages that are lost")
-    bars = elements(diagram, "g", "reading") + elements(diagram, "g", "writing")
+    bars = items(diagram, "reading", "writing")
     expect(len(bars) == count(trace, r": call \d+; it asks$"), "calls of a trace")
     check_said(diagram, trace)
     check_curtains(diagram, trace)
+    check_lit(diagram, trace)
+    check_strips(root, diagram)
 
 
 def check_script(abd, place, seed):

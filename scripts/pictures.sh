@@ -17,8 +17,9 @@ for history in *.history; do
   [ -e "$made/$history" ] || cp "$history" "$made/$history"
 done
 for history in "$made"/*.history; do
-  page="$made/pictures/$(basename "$history" .history).html"
-  "$abd" draw "$history" > "$page" || [ $? -eq 1 ]
+  name=$(basename "$history" .history)
+  # A page names the file as it was given.
+  (cd "$made" && "$abd" draw "$name.history") > "$made/pictures/$name.html" || [ $? -eq 1 ]
 done
 python3 ../scripts/picture_of.py "$made/pictures/skipped_write_back.html" > "$made/pictures/skipped_write_back.svg"
 "$abd" draw two_calls.history two_calls_refused.orders > "$made/pictures/two_calls_refused.html" || [ $? -eq 1 ]

@@ -1,14 +1,17 @@
 """verbs.py ABD
 
 Runs each command of the program so that it ends with 0, 1, 2, 3, 4 and 5, as far as it can, and `--help` and `--version`. It says which
-ends with another status, says nothing on standard error of a failure or doesn't name what failed, or writes to standard output what it must not.
+ends with another status, says nothing on standard error of a failure or doesn't name what failed, or writes to standard output what it
+must not; and which faulty file is explained otherwise if it comes through a pipe, or if it was changed or another has its name by then.
 Ends with status 1 then.
 """
 
+import contextlib
 import os
 import subprocess
 import sys
 import tempfile
+import time
 
 HISTORY = '{"abd":"history","version":1}\n'
 ORDERS = '{"abd":"orders","version":1}\n'
@@ -21,6 +24,9 @@ FILES = {
     "good.history": HISTORY + WRITE + NOTE + DONE,
     "unnoted.history": HISTORY + WRITE + DONE,
     "bad.history": HISTORY + "{\n",
+    "busy.history": HISTORY + WRITE + READ.replace('"client":2', '"client":1'),
+    "cut.history": HISTORY + WRITE + DONE[:9],
+    "wide.history": HISTORY + '{"call":0' + " " * 3_000_000 + "}\n",
     "late.history": HISTORY + WRITE + DONE + READ + '{"call":1,"row":"respond","value":null}\n',
     "doubt.history": HISTORY + WRITE + DONE + AGAIN + '{"call":1,"row":"respond"}\n' + READ.replace(":1,", ":2,", 1)
     + '{"call":2,"row":"respond","value":"a"}\n',
@@ -29,6 +35,7 @@ FILES = {
     "bad.orders": ORDERS + "{\n",
     "good.script": "replicas 1\njoin 1\ninvoke 1 read x\nfinish 1\n",
     "bad.script": "replicas 1\njion 1\n",
+    "late.script": "replicas 1\n" + "# what follows is late\n" * 150_000 + "jion 1\n",
 }
 FULL = "abd: output failed"
 
@@ -152,6 +159,155 @@ def wrongs(ran, status, errors, full):
         yield "standard output has something" if ran.stdout else "standard output has nothing"
 
 
+TOO_LONG = "  not explained: the file can't be read again, and more than 16,777,216 bytes of it were read\n"
+
+
+def said(abd, place, words, source=None, text=None):
+    """What standard error says of the files, of which one may come from standard input, or as that text through a pipe."""
+    ran = subprocess.run([abd, *words.split()], cwd=place, stdin=source, input=text and text.encode(), capture_output=True)
+    return ran.stderr.decode()
+
+
+def explained_otherwise(abd, place):
+    """Which faulty file isn't explained, or is explained otherwise if it comes through a pipe or from an open file than by its name."""
+    files = [("bad.history", "explain {}"), ("busy.history", "decide {}"), ("cut.history", "draw {}"), ("wide.history", "explain {}")]
+    files += [("bad.script", "explain {}"), ("good.script", "decide {}"), ("late.script", "explain {}")]
+    files += [("bad.orders", "explain good.history {}"), ("bad.history", "draw {} bad.orders"), ("busy.history", "explain {} good.orders")]
+    for name, words in files:
+        by_name = said(abd, place, words.format(name))
+        wanted = by_name.replace(f"abd: {name}:", "abd: /dev/stdin:")
+        words = words.format("/dev/stdin")
+        if "\n  " not in by_name:
+            yield f"abd {words}: {name} isn't explained but {by_name!r}"
+        if said(abd, place, words, text=FILES[name]) != wanted:
+            yield f"cat {name} | abd {words}: not {wanted!r}"
+        with open(os.path.join(place, name), "rb") as file:
+            if said(abd, place, words, file) != wanted:
+                yield f"abd {words} < {name}: not {wanted!r}"
+
+
+def through_pipes(abd, place, words, texts):
+    """What standard error says of files that come through pipes of their own, with these texts."""
+    pipes = [os.pipe() for _ in texts]
+    for (_, given), text in zip(pipes, texts):
+        os.write(given, text.encode())
+        os.close(given)
+    taken = [pipe for pipe, _ in pipes]
+    words = words.format(*[f"/dev/fd/{pipe}" for pipe in taken]).split()
+    ran = subprocess.run([abd, *words], cwd=place, capture_output=True, pass_fds=taken)
+    for pipe in taken:
+        os.close(pipe)
+    return ran.stderr.decode()
+
+
+def two_pipes_wrongs(abd, place):
+    """Which fault of two files is explained otherwise if each comes through a pipe, or if both are standard input."""
+    for names in (("good.history", "bad.orders"), ("busy.history", "bad.orders"), ("bad.history", "good.orders")):
+        wanted = [line for line in said(abd, place, "explain {} {}".format(*names)).splitlines() if line.startswith("  ")]
+        ran = through_pipes(abd, place, "explain {} {}", [FILES[name] for name in names])
+        if ran.splitlines()[1:] != wanted:
+            yield f"two pipes, of {names[0]} and {names[1]}: {ran!r}"
+    ran = said(abd, place, "explain /dev/stdin /dev/stdin", text=FILES["good.history"])
+    if not ran.startswith("abd: /dev/stdin: line 1: fault 2 no header\n  "):
+        yield f"a pipe that is empty the second time: {ran!r}"
+
+
+def long_history(calls):
+    """A history of so many calls, and then a line that is none."""
+    return HISTORY + "".join((WRITE + DONE).replace(":0,", f":{call},") for call in range(calls)) + "{\n"
+
+
+def long_wrongs(abd, place):
+    """Whether a fault is explained if no more was read than is kept, and if more was, that of a file that can be read again alone."""
+    why = said(abd, place, "explain bad.history").split("\n", 1)[1]
+    for calls, is_kept in ((100_000, True), (200_000, False)):
+        text = long_history(calls)
+        with open(os.path.join(place, "long.history"), "w") as file:
+            file.write(text)
+        line = f"line {2 * calls + 2}: fault 1 not JSON\n"
+        if (len(text) < 16_777_216) != is_kept:
+            yield f"{len(text)} bytes are no good row"
+        for ran, name, wanted in (
+            (said(abd, place, "explain long.history"), "long.history", why),
+            (said(abd, place, "explain /dev/stdin", text=text), "/dev/stdin", why if is_kept else TOO_LONG),
+        ):
+            if ran != f"abd: {name}: {line}{wanted}":
+                yield f"{name} of {len(text)} bytes: {ran!r}"
+    ran = said(abd, place, "explain /dev/stdin", text="replicas 1\n" + "# a long script\n" * 1_100_000)
+    if ran != "abd: /dev/stdin: line 1: fault 1 not JSON\n" + TOO_LONG:
+        yield f"a long script: {ran!r}"
+
+
+def opened_files(process):
+    """The names of the files that the process has open."""
+    folder = f"/proc/{process.pid}/fd"
+    names = []
+    with contextlib.suppress(OSError):
+        for number in os.listdir(folder):
+            names.append(os.path.basename(os.readlink(os.path.join(folder, number))))
+    return names
+
+
+def replaced_wrongs(abd, place):
+    """Whether a fault is explained by the file that was opened, if another has its name before that is read."""
+    wanted = said(abd, place, "explain busy.history good.orders")
+    names = {name: os.path.join(place, name) for name in ("first.history", "second.history", "orders")}
+    for name, text in (("first.history", FILES["busy.history"]), ("second.history", FILES["late.history"])):
+        with open(names[name], "w") as file:
+            file.write(text)
+    os.mkfifo(names["orders"])
+    process = subprocess.Popen([abd, "explain", "first.history", "orders"], cwd=place, stdout=subprocess.PIPE, stderr=subprocess.PIPE)
+    while "first.history" not in opened_files(process) and process.poll() is None:
+        time.sleep(0.01)
+    os.replace(names["second.history"], names["first.history"])
+    if process.poll() is None:
+        with open(names["orders"], "w") as orders:
+            orders.write(FILES["good.orders"])
+    ran = process.communicate()[1].decode()
+    if ran != wanted.replace("busy.history", "first.history"):
+        yield f"a file that was replaced once it was open: {ran!r}"
+
+
+def full_pipe():
+    """A pipe that takes no byte before one is read of it: where it is read, and where it is written."""
+    taken, given = os.pipe()
+    os.set_blocking(given, False)
+    for size in (4096, 1):
+        with contextlib.suppress(BlockingIOError):
+            while True:
+                os.write(given, b" " * size)
+    os.set_blocking(given, True)
+    return taken, given
+
+
+def wait_until_asleep(process):
+    """Waits until the process has slept for a while, or has ended."""
+    asleep = 0
+    while asleep < 20 and process.poll() is None:
+        with open(f"/proc/{process.pid}/stat") as file:
+            asleep = asleep + 1 if file.read().rpartition(")")[2].split()[0] == "S" else 0
+        time.sleep(0.01)
+
+
+def changed_wrongs(abd, place):
+    """Whether a fault is explained by what was read, if the file is changed before its fault is said."""
+    wanted = said(abd, place, "explain busy.history").replace("busy.history", "changed.history")
+    name = os.path.join(place, "changed.history")
+    with open(name, "w") as file:
+        file.write(FILES["busy.history"])
+    taken, given = full_pipe()
+    process = subprocess.Popen([abd, "explain", "changed.history"], cwd=place, stdout=subprocess.DEVNULL, stderr=given)
+    os.close(given)
+    wait_until_asleep(process)
+    with open(name, "w") as file:
+        file.write(FILES["bad.history"])
+    with open(taken) as errors:
+        ran = errors.read().lstrip(" ")
+    process.wait()
+    if ran != wanted:
+        yield f"a file that was changed once it was read: {ran!r}"
+
+
 def main():
     abd = os.path.abspath(sys.argv[1])
     add_all()
@@ -165,6 +321,10 @@ def main():
                 bad = True
                 device = " > /dev/full" if full else ""
                 print(f"abd {shown(words)}{device}: {wrong}")
+        for wrongs_of in (explained_otherwise, two_pipes_wrongs, long_wrongs, replaced_wrongs, changed_wrongs):
+            for wrong in wrongs_of(abd, place):
+                bad = True
+                print(wrong)
     sys.exit(bad)
 
 

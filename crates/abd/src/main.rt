@@ -3,13 +3,15 @@
 
 mod faults;
 mod names;
+mod opened;
 mod progress;
 
-use crate::faults::explain_faults;
+use crate::faults::{explain_history, explain_orders};
 use crate::names::FileName;
+use crate::opened::OpenedFile;
 use crate::progress::{Progress, SharedProgress};
 use cli::{
-    Counting, Ending, Failure, Source, Status, check_command, justify_command, simulate_command,
+    Counting, Failure, Source, Status, check_command, justify_command, simulate_command,
     usage_command,
 };
 use command_line::{
@@ -18,11 +20,13 @@ use command_line::{
 use decide_command::Deciding;
 use draw_command::Drawn;
 use explain_command::Explaining;
-use judged_keys::{Presentation, Selection, judge_history_command, judge_orders_command};
+use judged_keys::{
+    FaultyFile, Presentation, Selection, judge_history_command, judge_orders_command,
+};
 use justify_by_values::Justifying;
 use run_command::{NoWatch, Watch, run_command};
 use std::fs::File;
-use std::io::{ErrorKind, IsTerminal, Stderr, Stdout};
+use std::io::{ErrorKind, IsTerminal, Read, Stderr, Stdout};
 use std::process::ExitCode;
 use std::sync::Wait;
 use std::thread::Threads;
@@ -32,6 +36,9 @@ use whole_pictures::Whole;
 
 /// A file that was opened, whose failures are counted.
 type Opened<'a> = Source<'a, Counting<File>>;
+
+/// The same of a file that can be read once more.
+type Rereadable<'a> = Source<'a, Counting<OpenedFile>>;
 
 /// Standard output, whose failures are counted.
 type Out = Counting<Stdout>;
@@ -57,21 +64,27 @@ fn outputs(rt: &HostRuntime) -> (Out, Errors) {
     (Counting::new(rt.stdout()), Counting::new(rt.stderr()))
 }
 
+/// The file, of which nothing was read, as one that can be read once more.
+fn rereadable<'a>(rt: &HostRuntime, file: Opened<'a>) -> Rereadable<'a> {
+    let opened = OpenedFile::new(rt.alloc(), file.reader.into_inner());
+    Source::new(file.name, Counting::new(opened))
+}
+
 /// Opens the file, and runs the command on it.
-fn on_file<F>(rt: &HostRuntime, name: &str, run: F) -> Ending
+fn on_file<F>(rt: &HostRuntime, name: &str, run: F) -> Status
 where
-    F: FnOnce(&mut Opened<'_>, &mut Out, &mut Errors) -> Status,
+    F: FnOnce(Opened<'_>, &mut Out, &mut Errors) -> Status,
     requires { F.IsAlwaysCallable run }
 {
     let Ok(name) = FileName::new(rt, name) else {
-        return Ending::NotRun(fail(rt, Failure::Memory));
+        return fail(rt, Failure::Memory);
     };
     match open(rt, &name) {
-        Ok(mut file) => {
+        Ok(file) => {
             let (mut out, mut errors) = outputs(rt);
-            Ending::Ran(run(&mut file, &mut out, &mut errors))
+            run(file, &mut out, &mut errors)
         }
-        Err(status) => Ending::NotRun(status),
+        Err(status) => status,
     }
 }
 
@@ -92,20 +105,20 @@ fn open_both<'a>(
 }
 
 /// Opens both files before either is read, and runs the command on them.
-fn on_both<F>(rt: &HostRuntime, history: &str, orders: &str, run: F) -> Ending
+fn on_both<F>(rt: &HostRuntime, history: &str, orders: &str, run: F) -> Status
 where
-    F: for<'a> FnOnce(&mut Opened<'a>, &mut Opened<'a>, &mut Out, &mut Errors) -> Status,
+    F: for<'a> FnOnce(Opened<'a>, Opened<'a>, &mut Out, &mut Errors) -> Status,
     requires { F.IsAlwaysCallable run }
 {
     let (Ok(history), Ok(orders)) = (FileName::new(rt, history), FileName::new(rt, orders)) else {
-        return Ending::NotRun(fail(rt, Failure::Memory));
+        return fail(rt, Failure::Memory);
     };
     match open_both(rt, &history, &orders) {
-        Ok((mut history, mut orders)) => {
+        Ok((history, orders)) => {
             let (mut out, mut errors) = outputs(rt);
-            Ending::Ran(run(&mut history, &mut orders, &mut out, &mut errors))
+            run(history, orders, &mut out, &mut errors)
         }
-        Err(status) => Ending::NotRun(status),
+        Err(status) => status,
     }
 }
 
@@ -114,52 +127,92 @@ fn check(
     rt: &HostRuntime,
     threads: &(impl Threads + Wait + Sync),
     asked: &CheckAsked<'_>,
-) -> Ending {
+) -> Status {
     let (history, orders) = (asked.history, asked.orders);
     let (workers, form) = (asked.workers, asked.form);
-    on_both(rt, history, orders, |history, orders, out, errors| {
-        let alloc = rt.alloc();
-        check_command(threads, alloc, history, orders, workers, form, out, errors)
+    on_both(
+        rt,
+        history,
+        orders,
+        |mut history, mut orders, out, errors| {
+            let (history, orders) = (&mut history, &mut orders);
+            let alloc = rt.alloc();
+            check_command(threads, alloc, history, orders, workers, form, out, errors)
+        },
+    )
+}
+
+/// Judges the keys of the history, and shows them so. Of a faulty file it explains what is wrong with it.
+fn judge_history(
+    rt: &HostRuntime,
+    threads: &(impl Threads + Sync),
+    history: &str,
+    shown: &impl Presentation,
+) -> Status {
+    on_file(rt, history, |history, out, errors| {
+        let mut history = rereadable(rt, history);
+        let ended = judge_history_command(threads, rt.alloc(), &mut history, shown, out, errors);
+        if let Some(FaultyFile::History(fault)) = ended.faulty {
+            explain_history(rt, threads, history.reader.into_inner(), fault);
+        }
+        ended.status
     })
 }
 
-/// Judges the keys of the history, by the orders if there are some, and shows them so. Of a faulty file it
-/// explains what is wrong with it.
+/// Judges the keys of the history by the orders, and shows them so. Of a faulty file it explains what is wrong with
+/// it.
+fn judge_orders(
+    rt: &HostRuntime,
+    threads: &(impl Threads + Sync),
+    history: &str,
+    orders: &str,
+    shown: &impl Presentation,
+) -> Status {
+    on_both(rt, history, orders, |history, orders, out, errors| {
+        let (mut history, mut orders) = (rereadable(rt, history), rereadable(rt, orders));
+        let (first, second) = (&mut history, &mut orders);
+        let ended = judge_orders_command(threads, rt.alloc(), first, second, shown, out, errors);
+        match ended.faulty {
+            Some(FaultyFile::History(fault)) => {
+                explain_history(rt, threads, history.reader.into_inner(), fault);
+            }
+            Some(FaultyFile::Orders(fault)) => {
+                explain_orders(rt, &orders.reader.into_inner(), fault);
+            }
+            None => {}
+        }
+        ended.status
+    })
+}
+
+/// Judges the keys of the history, by the orders if there are some, and shows them so.
 fn judge(
     rt: &HostRuntime,
     threads: &(impl Threads + Sync),
     history: &str,
     orders: Option<&str>,
     shown: &impl Presentation,
-) -> Ending {
-    let ending = match orders {
-        Some(orders) => on_both(rt, history, orders, |history, orders, out, errors| {
-            judge_orders_command(threads, rt.alloc(), history, orders, shown, out, errors)
-        }),
-        None => on_file(rt, history, |history, out, errors| {
-            judge_history_command(threads, rt.alloc(), history, shown, out, errors)
-        }),
-    };
-    if ending.has_fault() {
-        explain_faults(rt, threads, history, orders);
+) -> Status {
+    match orders {
+        Some(orders) => judge_orders(rt, threads, history, orders, shown),
+        None => judge_history(rt, threads, history, shown),
     }
-    ending
 }
 
 /// Decides the history's keys by their values.
-fn decide(rt: &HostRuntime, threads: &(impl Threads + Sync), asked: &DecideAsked<'_>) -> Ending {
+fn decide(rt: &HostRuntime, threads: &(impl Threads + Sync), asked: &DecideAsked<'_>) -> Status {
     judge(rt, threads, asked.history, None, &Deciding::of(asked))
 }
 
 /// Explains the history's keys.
-fn explain(rt: &HostRuntime, threads: &(impl Threads + Sync), asked: &KeysAsked<'_>) -> Ending {
+fn explain(rt: &HostRuntime, threads: &(impl Threads + Sync), asked: &KeysAsked<'_>) -> Status {
     let selection = Selection::of(asked);
     let explaining = Explaining { selection };
     judge(rt, threads, asked.history, asked.orders, &explaining)
 }
 
 /// Draws the calls of the history's keys.
-fn draw(rt: &HostRuntime, threads: &(impl Threads + Sync), asked: &DrawAsked<'_>) -> Ending {
+fn draw(rt: &HostRuntime, threads: &(impl Threads + Sync), asked: &DrawAsked<'_>) -> Status {
     let (history, orders) = (asked.keys.history, asked.keys.orders);
     if asked.whole {
         judge(rt, threads, history, orders, &Whole::of(asked))
@@ -175,9 +228,10 @@ fn justify_by_tags(
     threads: &(impl Threads + Sync),
     history: &str,
     unchecked: bool,
-) -> Ending {
+) -> Status {
     let people = rt.stderr().is_terminal();
-    on_file(rt, history, |history, out, errors| {
+    on_file(rt, history, |mut history, out, errors| {
+        let history = &mut history;
         justify_command(threads, rt.alloc(), history, unchecked, people, out, errors)
     })
 }
@@ -188,15 +242,16 @@ fn justify_by_values(
     threads: &(impl Threads + Sync),
     history: &str,
     unchecked: bool,
-) -> Ending {
+) -> Status {
     let justifying = Justifying { unchecked };
-    on_file(rt, history, |history, out, errors| {
-        judge_history_command(threads, rt.alloc(), history, &justifying, out, errors)
+    on_file(rt, history, |mut history, out, errors| {
+        let history = &mut history;
+        judge_history_command(threads, rt.alloc(), history, &justifying, out, errors).status
     })
 }
 
 /// Writes orders of the history's keys.
-fn justify(rt: &HostRuntime, threads: &(impl Threads + Sync), asked: &JustifyAsked<'_>) -> Ending {
+fn justify(rt: &HostRuntime, threads: &(impl Threads + Sync), asked: &JustifyAsked<'_>) -> Status {
     match asked.by {
         By::Tags => justify_by_tags(rt, threads, asked.history, asked.unchecked),
         By::Values => justify_by_values(rt, threads, asked.history, asked.unchecked),
@@ -204,17 +259,61 @@ fn justify(rt: &HostRuntime, threads: &(impl Threads + Sync), asked: &JustifyAsk
 }
 
 /// Simulates the script.
-fn simulate(rt: &HostRuntime, threads: &(impl Threads + Sync), script: &str) -> Ending {
-    on_file(rt, script, |script, out, errors| {
-        simulate_command(threads, rt.alloc(), script, out, errors)
+fn simulate(rt: &HostRuntime, threads: &(impl Threads + Sync), script: &str) -> Status {
+    on_file(rt, script, |mut script, out, errors| {
+        simulate_command(threads, rt.alloc(), &mut script, out, errors)
     })
 }
 
 /// Tells the script's run.
-fn trace(rt: &HostRuntime, threads: &(impl Threads + Sync), script: &str, most: u32) -> Ending {
-    on_file(rt, script, |script, out, errors| {
-        trace_command(threads, rt.alloc(), script, most, out, errors)
+fn trace(rt: &HostRuntime, threads: &(impl Threads + Sync), script: &str, most: u32) -> Status {
+    on_file(rt, script, |mut script, out, errors| {
+        trace_command(threads, rt.alloc(), &mut script, most, out, errors)
     })
+}
+
+/// Reads the file's bytes, as far as they can be read.
+fn words_in(rt: &HostRuntime, file: &mut File) -> Result<Vec<u8>, Failure<'static>> {
+    let mut words = Vec::new(rt.alloc());
+    match file.read_to_end(&mut words) {
+        Err(error) if error.kind() == ErrorKind::OutOfMemory => Err(Failure::Memory),
+        _ => Ok(words),
+    }
+}
+
+/// Draws the run of the script in the file on a page. Its bytes are read first, since the page shows them; where
+/// they can't be read to their end, the command finds the same failure once more, and says so.
+fn trace_page_in(
+    rt: &HostRuntime,
+    threads: &(impl Threads + Sync),
+    name: &FileName<'_>,
+    file: File,
+    most: u32,
+) -> Status {
+    let mut file = file;
+    let words = match words_in(rt, &mut file) {
+        Ok(words) => words,
+        Err(failure) => return fail(rt, failure),
+    };
+    let reader = Counting::new(words.as_slice().chain(file));
+    let mut script = Source::new(name.told(), reader);
+    let (mut out, mut errors) = outputs(rt);
+    let alloc = rt.alloc();
+    let drawn = Drawn {
+        file: name.told(),
+        ..Drawn::by_default()
+    };
+    let words = words.as_slice();
+    trace_page_command(
+        threads,
+        alloc,
+        &mut script,
+        words,
+        most,
+        drawn,
+        &mut out,
+        &mut errors,
+    )
 }
 
 /// Draws the script's run on a page.
@@ -223,11 +322,14 @@ fn trace_page(
     threads: &(impl Threads + Sync),
     script: &str,
     most: u32,
-) -> Ending {
-    let drawn = Drawn::by_default();
-    on_file(rt, script, |script, out, errors| {
-        trace_page_command(threads, rt.alloc(), script, most, drawn, out, errors)
-    })
+) -> Status {
+    let Ok(name) = FileName::new(rt, script) else {
+        return fail(rt, Failure::Memory);
+    };
+    match open(rt, &name) {
+        Ok(file) => trace_page_in(rt, threads, &name, file.reader.into_inner(), most),
+        Err(status) => status,
+    }
 }
 
 /// Runs a store under a load that is watched.
@@ -241,7 +343,7 @@ where
     run_command(threads, alloc, asked, watch, &mut out, &mut errors)
 }
 
-/// A progress of the run. None where its clock can't be read or memory is wanted.
+/// A progress of the run. None if its clock can't be read, or out of memory.
 fn progress_of(rt: &HostRuntime, asked: &RunAsked) -> Option<SharedProgress<HostRuntime>> {
     let load = asked.load.options();
     let calls = u32::from(load.callers) * u32::from(load.calls);
@@ -266,7 +368,7 @@ where
 }
 
 /// Does what was asked for.
-fn obey<R>(rt: &HostRuntime, threads: &R, asked: &Command<'_>) -> Ending
+fn obey<R>(rt: &HostRuntime, threads: &R, asked: &Command<'_>) -> Status
 where
     R: Threads + Wait + Copy + Send + Sync + 'static,
 {
@@ -279,7 +381,7 @@ where
         Command::Simulate { script } => simulate(rt, threads, script),
         Command::Trace { script, most } => trace(rt, threads, script, *most),
         Command::TracePage { script, most } => trace_page(rt, threads, script, *most),
-        Command::Run(asked) => Ending::Ran(run(rt, threads, *asked)),
+        Command::Run(asked) => run(rt, threads, *asked),
     }
 }
 
@@ -303,7 +405,7 @@ where
         Err(_) => return fail(rt, Failure::Memory),
     };
     match command(rt.alloc(), words.as_slice()) {
-        Ok(asked) => obey(rt, threads, &asked).status(),
+        Ok(asked) => obey(rt, threads, &asked),
         Err(usage) => {
             let (mut out, mut errors) = outputs(rt);
             usage_command(rt.alloc(), usage, &mut out, &mut errors)

@@ -48,7 +48,7 @@ pub told_by : (r : Result (Unit {0}) WriteFault) (errors : DeviceStates) (text :
 told_by (Ok x) errors text sent begun failed = inl sent
 told_by (Err why) errors text sent begun failed = inr (begun, failed.1)
 
--- where the refusal is want of memory, its line is that of the failure
+-- where the refusal is out of memory, its line is that of the failure
 pub memory_told : (refusal : Unjustified) (errors : DeviceStates) → status_of_refusal refusal ≡ Failed → ReceivesOrFails errors (refusal_text refusal) → ReceivesOrFails errors (failure_line failure.Memory)
 unfolding refusal_text
 memory_told (unjustified.NoNote key op) errors is told = absurd (cc)

@@ -44,7 +44,7 @@ pub record AreJustified (parts : List KeyPart) (orders : List KeyOrder) : Type 0
       → slice_get orders i ≡ Some order → IsJustifiedOrder entry order
 
 -- why the key has no such order: that is its least completed call without a note, or its tag order
--- has that fault; memory was wanted only if each completed call has a note
+-- has that fault; out of memory comes only if each completed call has a note
 abbrev pub IsUnjustified : KeyPart → Unjustified → Type 0
 IsUnjustified entry (unjustified.NoNote key op) = (key.now ≡ entry.0) × IsLeastUnnoted entry.1 op
 IsUnjustified entry (unjustified.NoOrder key fault) = (key.now ≡ entry.0)
@@ -61,7 +61,7 @@ pub record IsFirstUnjustified (parts : List KeyPart) (refusal : Unjustified) : T
   pub justified : AreJustified before orders
   pub refused : IsUnjustified entry refusal
 
--- a key without an order is refused; want of memory is a failure
+-- a key without an order is refused; out of memory is a failure
 abbrev pub status_of_refusal : Unjustified → Status
 status_of_refusal (unjustified.NoNote key op) = status.Refused
 status_of_refusal (unjustified.NoOrder key fault) = status.Refused
@@ -79,7 +79,7 @@ refusal_text (unjustified.NoOrder key fault) =
     codes "abd: key " ++ key.now ++ codes ": no " ++ fault_text fault ++ codes "\n"
 refusal_text unjustified.Memory = codes "abd: no memory\n"
 
--- the line of a refused key went out to standard error; of want of memory no more is said
+-- the line of a refused key went out to standard error; of out of memory no more is said
 abbrev pub Refuses : Unjustified → DeviceStates → Status → Type 0
 Refuses refusal errors status.Refused =
     (status_of_refusal refusal ≡ status.Refused) × ReceivesOrFails errors (refusal_text refusal)

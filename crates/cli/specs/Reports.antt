@@ -38,7 +38,7 @@ abbrev pub StopsReading : FileStates → FileStates → Failure → Type 0
 StopsReading history orders why = IsFaultOf histories_format history why
     ⊎ (IsHistoryRead history.reader × IsFaultOf order_format orders why)
 
--- keys aren't checked by so many workers for want of memory, or of a second worker's thread
+-- keys aren't checked by so many workers: out of memory, or no thread for a second worker
 abbrev pub StopsKeys : ℕ → Failure → Type 0
 StopsKeys workers failure.Memory = Unit {0}
 StopsKeys workers failure.Thread = 2 ≤ workers
@@ -48,11 +48,11 @@ StopsKeys workers why = ⊥
 abbrev pub StopsCheck : FileStates → FileStates → ℕ → Failure → Type 0
 StopsCheck history orders workers why = StopsReading history orders why ⊎ StopsKeys workers why
 
--- nothing is made of both files: one isn't read to its end, or memory is wanted
+-- nothing is made of both files: one isn't read to its end, or out of memory
 abbrev pub StopsBoth : FileStates → FileStates → Failure → Type 0
 StopsBoth history orders why = StopsReading history orders why ⊎ (why ≡ failure.Memory)
 
--- nothing is made of a history alone: it isn't read to its end, or memory is wanted
+-- nothing is made of a history alone: it isn't read to its end, or out of memory
 abbrev pub StopsHistory : FileStates → Failure → Type 0
 StopsHistory history why = IsFaultOf histories_format history why ⊎ (why ≡ failure.Memory)
 
@@ -62,7 +62,7 @@ IsScriptFault file (failure.Script name error) = (name.now ≡ file.name)
     × StopsFrom script_faults file.reader error × FailsFrom file.reader error
 IsScriptFault file why = ⊥
 
--- a script isn't run for such a fault; or memory was wanted, of which no more is said
+-- a script isn't run for such a fault; or out of memory, of which no more is said
 abbrev pub IsOfScript : FileStates → Failure → Type 0
 IsOfScript file (failure.Script name error) = IsScriptFault file (failure.Script name error)
 IsOfScript file failure.Memory = Unit {0}
@@ -85,7 +85,7 @@ module _ (file : FileStates) (out errors : DeviceStates) where
         (failure_line failure.Output)
 
   -- what the status of a simulation says of standard error. Good: all messages of the script's run
-  -- went there. Format or failed: the report of a fault of the script or of want of memory, and no
+  -- went there. Format or failed: the report of a fault of the script or of out of memory, and no
   -- message; or some messages, and the report of a device
   abbrev pub ReportsSimulation : Status → Type 0
   ReportsSimulation status.Good = Simulates file.reader (λ said text. Receives errors said)

@@ -2,8 +2,6 @@
 use Rattle.std.specs.Prelude.{ℕ}
 use Rattle.counted_devices.specs.declared.read_fault.FaultKind.{FaultKind}
 use Rattle.counted_devices.specs.declared.read_fault.FaultKind.TheVariants as kind
-use Rattle.cli.specs.declared.ending.Ending.{Ending}
-use Rattle.cli.specs.declared.ending.Ending.TheVariants as ending
 use Rattle.cli.specs.declared.status.Status.{Status}
 use Rattle.cli.specs.declared.status.Status.TheVariants.{Good, Refused, Usage, Format, Failed}
 use Rattle.cli.specs.declared.status.Status.TheVariants.{Undecided}
@@ -20,7 +18,7 @@ code_of Format = 3
 code_of Failed = 4
 code_of Undecided = 5
 
--- a fault of a line is one of the file's format; a reader that fails and want of memory are none
+-- a fault of a line is one of the file's format; a reader that fails and out of memory are none
 abbrev pub status_of_kind : {L : Type 0} → FaultKind L → Status
 status_of_kind (kind.Line fault) = Format
 status_of_kind kind.Device = Failed
@@ -34,8 +32,3 @@ status_of (failure.Script name error) = status_of_kind error.kind
 status_of failure.Output = Failed
 status_of failure.Memory = Failed
 status_of failure.Thread = Failed
-
--- the status of a command on files, whether it ran or not
-abbrev pub status_of_ending : Ending → Status
-status_of_ending (ending.Ran s) = s
-status_of_ending (ending.NotRun s) = s

@@ -1,5 +1,6 @@
 //! The check of the orders of the keys of histories, with a line for each.
 ghost use Rattle.std.specs.Prelude.{◌≡◌, IfOk, IfErr};
+ghost use Rattle.recorder.specs.Halls.{AreHalls};
 ghost use Rattle.parallel_keys.specs.CheckedKeys.{AreDistinct};
 ghost use Rattle.cli.specs.Checks.{MakesCheck};
 ghost use Rattle.cli.specs.Outcomes.{ended};
@@ -42,6 +43,13 @@ fn found_in(verdicts: &[(Key, Verdict)]) -> Found
     Found::Good
 }
 
+/// What holds of all histories.
+fn attest(histories: &Histories)
+    ensures { AreHalls histories.now }
+{
+    let _ = histories.halls();
+}
+
 /// Checks the orders of an order file: a line in that form for each key of the histories and the orders.
 pub(crate) fn check_outcome<R: Threads + Wait>(
     rt: &R,
@@ -55,7 +63,7 @@ pub(crate) fn check_outcome<R: Threads + Wait>(
     ensures made { IfOk result (MakesCheck form histories.now orders.now) }
     ensures stops { IfErr result (StopsKeys workers) }
 {
-    let _halls = histories.halls();
+    attest(histories);
     let checked = check_histories(rt, alloc, histories, orders, workers, &NoGate)?;
     let verdicts = checked.as_slice();
     let text = lines_of(alloc, form, verdicts)?;

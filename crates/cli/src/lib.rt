@@ -6,7 +6,6 @@
 
 mod check;
 mod check_outcome;
-mod ending;
 mod json_lines;
 mod justify;
 mod noted_orders;
@@ -23,7 +22,6 @@ mod verdict_lines;
 pub use check::check_command;
 pub use command_line::Lines;
 pub use counted_devices::Counting;
-pub use ending::Ending;
 pub use justify::{justify_command, order_file};
 pub use noted_orders::{Unjustified, checked_orders};
 pub use notes::has_note;

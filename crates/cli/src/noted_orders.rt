@@ -63,8 +63,8 @@ impl Unjustified<'_> {
         }
     }
 
-    /// Says why on the writer, one line, and answers its status; where an allocation is refused, that memory
-    /// is wanted, and `Failed`. What the writer refuses is lost, as there is nowhere else to say it.
+    /// Says why on the writer, one line, and answers its status; out of memory it says that, and answers
+    /// `Failed`. What the writer refuses is lost, as there is nowhere else to say it.
     pub fn report<E: CountedWrite>(self, alloc: Global, errors: &mut E) -> Status
         ensures refuses { Refuses self.entry
             (states E.contents E.failures errors.old errors.new) result }

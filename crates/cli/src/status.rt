@@ -25,7 +25,7 @@ pub enum Status {
     Usage,
     /// A file can't be opened, or isn't of its format.
     Format,
-    /// Want of memory, a device that failed, or a thread that couldn't be started.
+    /// Out of memory, a device that failed, or a thread that couldn't be started.
     Failed,
     /// No key is refused; whether one is atomic isn't decided.
     Undecided,

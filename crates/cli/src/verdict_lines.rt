@@ -19,7 +19,7 @@ pub(crate) fn append_fault(text: &mut Vec<u8>, fault: Fault) -> Result<(), Memor
     }
 }
 
-/// Says the verdict. Without memory a beginning of it may have been added.
+/// Says the verdict. Out of memory, it may have added a beginning of it.
 pub fn append_verdict(text: &mut Vec<u8>, verdict: Verdict) -> Result<(), Memory>
     ensures { OnOk result (text.new.items ≡ text.old.items ++ verdict_text verdict) }
 {

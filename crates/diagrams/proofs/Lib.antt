@@ -1,4 +1,1 @@
-pub mod Counts
 pub mod Rendering
-mod Readable
-mod Hiding

@@ -5,8 +5,9 @@ use Rattle.std.specs.Prelude.{ℕ, ◌*◌, List, [], ◌∷◌, Option, Some, N
 use Rattle.markup.specs.Markup.{Markup, nothing, empty, element, both, attribute_of}
 use Rattle.markup.specs.declared.names.AttributeName.TheVariants as name
 use Rattle.markup.specs.declared.names.Element.TheVariants as tag
+use Rattle.markup.specs.Texts.{of_class}
 use Rattle.labels.specs.declared.places.Frame.{Frame}
-use Rattle.labels.specs.Labels.{label_markup, line_markup, polyline, title, words_of}
+use Rattle.labels.specs.Labels.{label_markup, line_markup, polyline, words_of}
 use Rattle.labels.specs.Places.{place_and_size}
 use Rattle.tag.specs.declared.actions.Action.{Action}
 use Rattle.tag.specs.declared.actions.Action.TheVariants.{Read, Write}
@@ -16,13 +17,13 @@ use Rattle.message_scenes.specs.declared.calls.CallEnd.{CallEnd}
 use Rattle.message_scenes.specs.declared.calls.CallEnd.TheVariants as ending
 use Rattle.message_scenes.specs.declared.calls.PlacedNote.{PlacedNote}
 use Rattle.message_scenes.specs.declared.scene.MessageScene.{MessageScene}
-use Rattle.diagrams.specs.declared.sizes.TheConstants.{BAR_LEFT, BAR_RIGHT, LETTERS, MOMENT}
-use Rattle.diagrams.specs.declared.sizes.TheConstants.{STOP_LEFT, STOP_RIGHT, TEXT_BASE, TEXT_RIGHT}
+use Rattle.diagram_places.specs.declared.sizes.TheConstants.{LETTERS, MOMENT, STOP_LEFT, STOP_RIGHT}
+use Rattle.diagram_places.specs.declared.sizes.TheConstants.{TEXT_BASE, TEXT_RIGHT}
+use Rattle.diagram_places.specs.Frames.{bottom_of, piece}
+use Rattle.diagram_places.specs.Layout.{client_x, down}
 use Rattle.diagrams.specs.declared.style.TheConstants.{ASKING, BEGIN, NOTE, OUTCOME, PUTTING}
 use Rattle.diagrams.specs.declared.style.TheConstants.{READING, STOP, STOPPED, WRITING}
-use Rattle.diagrams.specs.Items.{item_attributes}
-use Rattle.diagrams.specs.Layout.{client_x, down, rows_of}
-use Rattle.diagrams.specs.Words.{begin_words, note_words, returned_words}
+use Rattle.diagram_words.specs.Words.{begin_words, note_words, returned_words}
 
 -- the class of a bar by what its call does
 abbrev pub action_class : Action → List ℕ
@@ -49,29 +50,15 @@ last_part ending.Open class frame = open_part class frame
 last_part other class frame = shut_part class frame
 
 module _ (scene : MessageScene) where
-  -- where a bar ends, down: in the row of its end, or below the last one
-  abbrev pub bottom_of : CallEnd → ℕ
-  bottom_of (ending.Answered row returned) = down MOMENT row
-  bottom_of (ending.Stopped row) = down MOMENT row
-  bottom_of ending.Open = down MOMENT (rows_of scene)
-
-  -- a piece of a client's lifeline
-  abbrev pub piece : ℕ → ℕ → ℕ → Frame
-  piece client top bottom = record {
-    left = client_x scene BAR_LEFT client;
-    right = client_x scene BAR_RIGHT client;
-    top = top;
-    bottom = bottom;
-  }
-
   -- the parts of a bar: where the call asks, and, from the row of its note on, where it puts
   abbrev pub parts : Option PlacedNote → CallBar → Markup
   parts None bar = last_part bar.end ASKING.now
-      (piece bar.client (down MOMENT bar.begins) (bottom_of bar.end))
+      (piece scene bar.client (down MOMENT bar.begins) (bottom_of scene bar.end))
   parts (Some note) bar = both
-      (shut_part ASKING.now (piece bar.client (down MOMENT bar.begins) (down MOMENT note.row)))
+      (shut_part ASKING.now
+      (piece scene bar.client (down MOMENT bar.begins) (down MOMENT note.row)))
       (last_part bar.end PUTTING.now
-      (piece bar.client (down MOMENT note.row) (bottom_of bar.end)))
+      (piece scene bar.client (down MOMENT note.row) (bottom_of scene bar.end)))
 
   -- a line across the lifeline at that height, where the client stopped
   abbrev pub stop_line : ℕ → ℕ → Markup
@@ -87,10 +74,13 @@ module _ (scene : MessageScene) where
   stop_of client (ending.Stopped row) = stop_line client (down MOMENT row)
   stop_of client other = nothing
 
-  -- the bar of a call
-  abbrev pub bar_markup : CallBar → Markup
-  bar_markup bar = element tag.G (item_attributes (action_class bar.action))
-      (both (title (begin_words bar)) (both (parts bar.note bar) (stop_of bar.client bar.end)))
+  -- what is seen of the bar of a call
+  abbrev pub in_bar : CallBar → Markup
+  in_bar bar = both (parts bar.note bar) (stop_of bar.client bar.end)
+
+  -- the same, by itself
+  abbrev pub bar_shape : CallBar → Markup
+  bar_shape bar = element tag.G (of_class (action_class bar.action)) (in_bar bar)
 
   -- words of that class left of the client's lifeline, in a row
   abbrev pub text_at : List ℕ → ℕ → ℕ → List ℕ → Markup

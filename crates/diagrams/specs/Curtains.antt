@@ -8,19 +8,19 @@ use Rattle.markup.specs.declared.names.Element.TheVariants as tag
 use Rattle.sentences.specs.Words.{numbered}
 use Rattle.labels.specs.Each.{each_from}
 use Rattle.labels.specs.Labels.{label_markup, words_of}
-use Rattle.labels.specs.declared.places.Frame.{Frame}
 use Rattle.message_scenes.specs.declared.scene.MessageScene.{MessageScene}
 use Rattle.message_scenes.specs.declared.scene.StepRow.{StepRow}
-use Rattle.diagrams.specs.declared.sizes.TheConstants.{ALL_LEFT, BACK_LEFT, BOTTOM, COMMAND_LEFT}
-use Rattle.diagrams.specs.declared.sizes.TheConstants.{CURTAIN_TOP, LETTERS, LINK_BASE}
-use Rattle.diagrams.specs.declared.sizes.TheConstants.{MOST_CURTAINS, NAMES_BASE, NEXT_LEFT}
-use Rattle.diagrams.specs.declared.sizes.TheConstants.{RIGHT, ROW_TOP}
-use Rattle.diagrams.specs.declared.sizes.TheConstants.{SENTENCE_LETTERS, TOLD_LEFT, TOLD_LETTERS}
-use Rattle.diagrams.specs.declared.style.TheConstants.{ALL, BACK, CURTAIN, LINK, NEXT}
-use Rattle.diagrams.specs.declared.style.TheConstants.{MESSAGES_LINK, MORE, NO_CURTAINS, SENTENCE}
+use Rattle.diagram_places.specs.declared.sizes.TheConstants.{ALL_LEFT, BACK_LEFT, COMMAND_LEFT}
+use Rattle.diagram_places.specs.declared.sizes.TheConstants.{LETTERS, LINK_BASE, MOST_CURTAINS}
+use Rattle.diagram_places.specs.declared.sizes.TheConstants.{NAMES_BASE, NEXT_LEFT}
+use Rattle.diagram_places.specs.declared.sizes.TheConstants.{SENTENCE_LETTERS, TOLD_LEFT}
+use Rattle.diagram_places.specs.declared.sizes.TheConstants.{TOLD_LETTERS}
+use Rattle.diagram_places.specs.Frames.{curtain_frame}
+use Rattle.diagram_places.specs.Layout.{down, rows_of}
+use Rattle.diagrams.specs.declared.style.TheConstants.{ALL, BACK, CURTAIN, LINK, MESSAGES_LINK}
+use Rattle.diagrams.specs.declared.style.TheConstants.{MORE, NEXT, NO_CURTAINS, SENTENCE}
 use Rattle.diagrams.specs.declared.style.TheConstants.{STEP_BY_STEP, STEP_ID, STEP_LINK}
 use Rattle.diagrams.specs.Calls.{shut_part}
-use Rattle.diagrams.specs.Layout.{down, replica_x, replicas_of, rows_of}
 
 -- the id of the curtain of a row
 abbrev pub curtain_id : ℕ → List ℕ
@@ -45,15 +45,6 @@ abbrev pub told_text : ℕ → StepRow → Markup
 told_text y row = label_markup SENTENCE.now TOLD_LEFT y TOLD_LETTERS row.told
 
 module _ (scene : MessageScene) where
-  -- what the curtain of a row hides: all below the row
-  abbrev pub curtain_frame : ℕ → Frame
-  curtain_frame row = record {
-    left = 0;
-    right = replica_x scene RIGHT (replicas_of scene);
-    top = down CURTAIN_TOP row;
-    bottom = down BOTTOM (rows_of scene);
-  }
-
   -- the link on, from the curtain of a row: there is none from the last
   abbrev pub link_next : ℕ → ℕ → Markup
   link_next y row = if nat_lt row (rows_of scene - 1)
@@ -68,7 +59,7 @@ module _ (scene : MessageScene) where
   abbrev pub curtain_markup : ℕ → StepRow → Markup
   curtain_markup index row = element tag.G
       (words_of name.Id (curtain_id index) ∷ words_of name.Class CURTAIN.now ∷ [])
-      (both (shut_part CURTAIN.now (curtain_frame index))
+      (both (shut_part CURTAIN.now (curtain_frame scene index))
       (both (links (down LINK_BASE index) index) (told_text (down LINK_BASE index) row)))
 
   -- the link to the first curtain
@@ -81,13 +72,3 @@ module _ (scene : MessageScene) where
   curtains = if nat_le (rows_of scene) MOST_CURTAINS
       then both start_link (each_from curtain_markup 0 scene.rows.items)
       else label_markup MORE.now COMMAND_LEFT NAMES_BASE SENTENCE_LETTERS NO_CURTAINS.now
-
--- the curtain of a row hides no row up to it, and each row after it whole: a row stands between its
--- top and that of the next one
-pub record HidesRowsAfter (scene : MessageScene) (row : ℕ) : Type 0 where
-  pub shows : (other : ℕ) → other ≤ row
-      → down ROW_TOP (other + 1) ≤ (curtain_frame scene row).top
-  pub hides : (other : ℕ) → row < other
-      → (curtain_frame scene row).top ≤ down ROW_TOP other
-  pub whole : (other : ℕ) → other < rows_of scene
-      → down ROW_TOP (other + 1) ≤ (curtain_frame scene row).bottom

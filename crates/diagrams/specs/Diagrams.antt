@@ -8,21 +8,24 @@ use Rattle.sentences.specs.Words.{numbered}
 use Rattle.labels.specs.Each.{each_from}
 use Rattle.labels.specs.Labels.{label_markup, number_of, title, words_of}
 use Rattle.message_scenes.specs.declared.scene.MessageScene.{MessageScene}
+use Rattle.diagram_places.specs.declared.sizes.TheConstants.{BOTTOM, COMMAND_LEFT, HEAD_MIDDLE}
+use Rattle.diagram_places.specs.declared.sizes.TheConstants.{HEAD_SIZE, HEAD_TIP, SENTENCE_LETTERS}
+use Rattle.diagram_places.specs.declared.sizes.TheConstants.{TEXT_BASE}
+use Rattle.diagram_places.specs.Frames.{width_of}
+use Rattle.diagram_places.specs.Layout.{down, rows_of}
 use Rattle.diagrams.specs.declared.sheet.TheConstants.{LEGEND_WORDS, SHEET}
-use Rattle.diagrams.specs.declared.sizes.TheConstants.{BOTTOM, COMMAND_LEFT, HEAD_MIDDLE, HEAD_SIZE}
-use Rattle.diagrams.specs.declared.sizes.TheConstants.{HEAD_TIP, RIGHT, SENTENCE_LETTERS, TEXT_BASE}
 use Rattle.diagrams.specs.declared.style.TheConstants.{AUTO, HEAD, HEAD_BOX, HEAD_PATH, KEY}
-use Rattle.diagrams.specs.declared.style.TheConstants.{MORE, OMITTED, TITLE}
-use Rattle.diagrams.specs.Arrows.{arrow_markup}
-use Rattle.diagrams.specs.Calls.{bar_markup, call_texts}
+use Rattle.diagrams.specs.declared.style.TheConstants.{LIFELINES, MORE, OMITTED, TEXTS, TITLE}
+use Rattle.diagrams.specs.Calls.{call_texts}
 use Rattle.diagrams.specs.Curtains.{curtains}
 use Rattle.diagrams.specs.Hearings.{hearing_text}
-use Rattle.diagrams.specs.Items.{box_attributes, list_attributes}
-use Rattle.diagrams.specs.Layout.{down, replica_x, replicas_of, rows_of}
+use Rattle.diagrams.specs.Items.{box_attributes, hidden_attributes, list_attributes}
 use Rattle.diagrams.specs.Lifelines.{lifelines}
+use Rattle.diagrams.specs.Lit.{arrow_markup, bar_markup}
 use Rattle.diagrams.specs.Replicas.{down_markup, holding_markup}
 use Rattle.diagrams.specs.Rows.{reason_markup, row_markup}
 use Rattle.diagrams.specs.Sheets.{arrow_samples, bar_samples}
+use Rattle.diagrams.specs.Strips.{strips}
 
 -- the attributes of the head of arrows
 abbrev pub head_attributes : List NamedText
@@ -51,22 +54,26 @@ module _ (scene : MessageScene) where
   -- what arrows and calls stand on: the rows, the lifelines, and the times replicas are down
   abbrev pub plane : Markup
   plane = both (each_from (row_markup scene) 0 scene.rows.items)
-      (both (lifelines scene) (each (down_markup scene) scene.downs.items))
+      (element tag.G (hidden_attributes LIFELINES.now)
+      (both (lifelines scene) (each (down_markup scene) scene.downs.items)))
 
-  -- the bars of the calls, the arrows above them, and above these the texts, and why rows have
-  -- nothing to show
+  -- the texts at lifelines, and why rows have nothing to show
+  abbrev pub texts : Markup
+  texts = both (each (call_texts scene) scene.calls.items)
+      (both (each (hearing_text scene) scene.hearings.items)
+      (both (each (holding_markup scene) scene.holdings.items)
+      (each_from reason_markup 0 scene.rows.items)))
+
+  -- the bars of the calls, the arrows above them, and above these the texts
   abbrev pub shapes : Markup
   shapes = both (each (bar_markup scene) scene.calls.items)
       (both (each (arrow_markup scene) scene.arrows.items)
-      (both (each (call_texts scene) scene.calls.items)
-      (both (each (hearing_text scene) scene.hearings.items)
-      (both (each (holding_markup scene) scene.holdings.items)
-      (each_from reason_markup 0 scene.rows.items)))))
+      (element tag.G (hidden_attributes TEXTS.now) texts))
 
   -- the size of the diagram
   abbrev pub svg_attributes : List NamedText
   svg_attributes =
-      list_attributes (replica_x scene RIGHT (replicas_of scene)) (down BOTTOM (rows_of scene))
+      list_attributes (width_of scene) (down BOTTOM (rows_of scene))
 
   -- what stands in the diagram's element: the curtains above all else
   abbrev pub content : Markup
@@ -76,9 +83,9 @@ module _ (scene : MessageScene) where
   abbrev pub svg : Markup
   svg = element tag.Svg svg_attributes content
 
-  -- the diagram, which scrolls where the window is too narrow
+  -- the diagram, which scrolls where the window is too narrow, and its strips on paper
   abbrev pub diagram : Markup
-  diagram = element tag.Div box_attributes svg
+  diagram = element tag.Div box_attributes (both (strips scene) svg)
 
 -- ---- what a page of diagrams has once
 

@@ -7,7 +7,7 @@ use Rattle.message_scenes.specs.declared.hearings.Hearing.{Hearing}
 use Rattle.message_scenes.specs.declared.scene.MessageScene.{MessageScene}
 use Rattle.diagrams.specs.declared.style.TheConstants.{COUNTED, COUNTS_NOTHING, ENOUGH, IGNORED}
 use Rattle.diagrams.specs.Calls.{text_at}
-use Rattle.diagrams.specs.Words.{votes_words}
+use Rattle.diagram_words.specs.Words.{votes_words}
 
 module _ (scene : MessageScene) where
   -- what is said of a reply in its row, of which that came

@@ -4,11 +4,16 @@ use Rattle.std.specs.Prelude.{ℕ, ◌*◌, List, [], ◌∷◌}
 use Rattle.markup.specs.Markup.{NamedText, all_tenths_text}
 use Rattle.markup.specs.declared.names.AttributeName.TheVariants as name
 use Rattle.labels.specs.Labels.{number_of, words_of}
-use Rattle.diagrams.specs.declared.style.TheConstants.{ITEM, LIST, MESSAGES, REGION, TITLE}
+use Rattle.diagrams.specs.declared.style.TheConstants.{ITEM, LIST, MESSAGES, REGION, TITLE, TRUE}
 
--- the attributes of an item of that class
+-- the attributes of an item of that class, which can have the focus
 abbrev pub item_attributes : List ℕ → List NamedText
-item_attributes class = words_of name.Class class ∷ words_of name.Role ITEM.now ∷ []
+item_attributes class = words_of name.Class class ∷ words_of name.Role ITEM.now
+    ∷ number_of name.Tabindex 0 ∷ []
+
+-- the attributes of a group of that class of what says nothing to who doesn't see it
+abbrev pub hidden_attributes : List ℕ → List NamedText
+hidden_attributes class = words_of name.Class class ∷ words_of name.AriaHidden TRUE.now ∷ []
 
 -- the attributes of the list, which is so wide and so high
 abbrev pub list_attributes : ℕ → ℕ → List NamedText

@@ -1,11 +1,11 @@
-pub mod Layout
 pub mod Readable
-pub mod Words
 pub mod Lifelines
 pub mod Rows
 pub mod Arrows
 pub mod Calls
 pub mod Curtains
+pub mod Lit
+pub mod Strips
 pub mod Hearings
 pub mod Items
 pub mod Replicas

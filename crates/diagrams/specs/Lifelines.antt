@@ -4,11 +4,11 @@ use Rattle.markup.specs.Markup.{Markup, nothing, both, each}
 use Rattle.sentences.specs.Words.{numbered}
 use Rattle.labels.specs.Labels.{label_markup, line_markup}
 use Rattle.message_scenes.specs.declared.scene.MessageScene.{MessageScene}
-use Rattle.diagrams.specs.declared.sizes.TheConstants.{CLIENT, FOOT_BASE, LETTERS, LONG, MOMENT}
-use Rattle.diagrams.specs.declared.sizes.TheConstants.{NAMES_BASE, REPLICA, TOP}
+use Rattle.diagram_places.specs.declared.sizes.TheConstants.{CLIENT, FOOT_BASE, LETTERS, LONG}
+use Rattle.diagram_places.specs.declared.sizes.TheConstants.{MOMENT, NAMES_BASE, REPLICA, TOP}
+use Rattle.diagram_places.specs.Layout.{client_x, down, replica_x, replicas_of, rows_of}
 use Rattle.diagrams.specs.declared.style.TheConstants.{CLIENT_WORD, LIFELINE, WHO}
-use Rattle.diagrams.specs.Layout.{client_x, down, replica_x, replicas_of, rows_of}
-use Rattle.diagrams.specs.Words.{replica_words}
+use Rattle.diagram_words.specs.Words.{replica_words}
 
 -- what is made of each number below a count, one after another
 abbrev pub each_below : (ℕ → Markup) → ℕ → Markup

@@ -1,28 +1,39 @@
 -- The rows of a diagram: each has its line of the script at the left, and a line over all columns.
 -- Where nothing was done, a band stands over all columns, and in it why.
-use Rattle.std.specs.Prelude.{ℕ, List}
-use Rattle.markup.specs.Markup.{Markup, nothing, both}
+use Rattle.std.specs.Prelude.{ℕ, ◌≡◌, List, [], ◌∷◌, ◌++◌, codes}
+use Rattle.markup.specs.Markup.{Markup, nothing, element, both}
+use Rattle.markup.specs.declared.names.AttributeName.TheVariants as name
+use Rattle.markup.specs.declared.names.Element.TheVariants as tag
 use Rattle.sentences.specs.Words.{numbered}
-use Rattle.labels.specs.declared.places.Frame.{Frame}
-use Rattle.labels.specs.Labels.{label_markup, line_markup}
+use Rattle.labels.specs.Labels.{label_markup, line_markup, words_of}
 use Rattle.traces.specs.Words.{refusal_text, unsettled_text}
 use Rattle.message_scenes.specs.declared.scene.Attempt.{Attempt}
 use Rattle.message_scenes.specs.declared.scene.Attempt.TheVariants as attempt
 use Rattle.message_scenes.specs.declared.scene.MessageScene.{MessageScene}
 use Rattle.message_scenes.specs.declared.scene.StepRow.{StepRow}
-use Rattle.diagrams.specs.declared.sizes.TheConstants.{BAND_BOTTOM, BAND_TOP, COMMAND_LEFT}
-use Rattle.diagrams.specs.declared.sizes.TheConstants.{COMMAND_LETTERS, LINE_LETTERS, LINE_RIGHT}
-use Rattle.diagrams.specs.declared.sizes.TheConstants.{MOMENT, REASON_LEFT, RIGHT, SENTENCE_LETTERS}
-use Rattle.diagrams.specs.declared.sizes.TheConstants.{STEP_LEFT, TEXT_BASE}
+use Rattle.diagram_places.specs.declared.sizes.TheConstants.{COMMAND_LEFT, COMMAND_LETTERS}
+use Rattle.diagram_places.specs.declared.sizes.TheConstants.{LINE_LETTERS, LINE_RIGHT, MOMENT}
+use Rattle.diagram_places.specs.declared.sizes.TheConstants.{REASON_LEFT, SENTENCE_LETTERS}
+use Rattle.diagram_places.specs.declared.sizes.TheConstants.{STEP_LEFT, TEXT_BASE}
+use Rattle.diagram_places.specs.Frames.{band, width_of}
+use Rattle.diagram_places.specs.Layout.{down}
 use Rattle.diagrams.specs.declared.style.TheConstants.{BAND, COMMAND, LINE_WORD, REASON, REFUSED}
-use Rattle.diagrams.specs.declared.style.TheConstants.{SOURCE, STEP}
+use Rattle.diagrams.specs.declared.style.TheConstants.{SCRIPT_ID, SCRIPT_LINK, SOURCE, STEP}
 use Rattle.diagrams.specs.Calls.{shut_part}
-use Rattle.diagrams.specs.Layout.{down, replica_x, replicas_of}
-use Rattle.diagrams.specs.Words.{attempt_words}
+use Rattle.diagram_words.specs.Words.{attempt_words}
 
--- the number of the line of the script that a row's step belongs to, at that height
+-- the id of a line of the script
+abbrev pub script_id : ℕ → List ℕ
+script_id line = numbered SCRIPT_ID.now line
+
+-- a link to that line
+abbrev pub line_link : ℕ → List ℕ
+line_link line = numbered SCRIPT_LINK.now line
+
+-- the number of the line of the script that a row's step belongs to, at that height: a link to it
 abbrev pub source_at : ℕ → ℕ → Markup
-source_at y line = label_markup SOURCE.now LINE_RIGHT y LINE_LETTERS (numbered LINE_WORD.now line)
+source_at y line = element tag.A (words_of name.Href (line_link line) ∷ [])
+    (label_markup SOURCE.now LINE_RIGHT y LINE_LETTERS (numbered LINE_WORD.now line))
 
 -- the class of these words by what came of it
 abbrev pub attempt_class : Attempt → List ℕ
@@ -60,25 +71,20 @@ module _ (scene : MessageScene) where
   row_line index = line_markup STEP.now (record {
     x1 = STEP_LEFT;
     y1 = down MOMENT index;
-    x2 = replica_x scene RIGHT (replicas_of scene);
+    x2 = width_of scene;
     y2 = down MOMENT index;
   })
-
-  -- a band over all columns, in the row of that index
-  abbrev pub band : ℕ → Frame
-  band index = record {
-    left = STEP_LEFT;
-    right = replica_x scene RIGHT (replicas_of scene);
-    top = down BAND_TOP index;
-    bottom = down BAND_BOTTOM index;
-  }
 
   -- such a band, if nothing was done
   abbrev pub band_of : ℕ → Attempt → Markup
   band_of index (attempt.Taken step) = nothing
-  band_of index other = shut_part BAND.now (band index)
+  band_of index other = shut_part BAND.now (band scene index)
 
   -- the row of that index
   abbrev pub row_markup : ℕ → StepRow → Markup
   row_markup index row =
       both (row_line index) (both (band_of index row.attempt) (row_words index row))
+
+-- the link of a line leads to the place of the line of that number
+abbrev pub LeadsToItsLine : ℕ → Type 0
+LeadsToItsLine line = line_link line ≡ codes "#" ++ script_id line

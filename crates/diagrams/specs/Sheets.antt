@@ -2,10 +2,9 @@
 use Rattle.markup.specs.Markup.{Markup, both}
 use Rattle.labels.specs.Samples.{sample}
 use Rattle.diagrams.specs.declared.style.TheConstants.{ASKING, ASKING_KEY, DOWN_KEY, DOWN_TIME}
-use Rattle.diagrams.specs.declared.style.TheConstants.{LOST, LOST_KEY, PUTTING}
-use Rattle.diagrams.specs.declared.style.TheConstants.{PUTTING_KEY, REPLY, REPLY_KEY, REQUEST}
-use Rattle.diagrams.specs.declared.style.TheConstants.{REQUEST_KEY, STALE, STALE_KEY, UNDER_WAY}
-use Rattle.diagrams.specs.declared.style.TheConstants.{UNDER_WAY_KEY}
+use Rattle.diagrams.specs.declared.style.TheConstants.{LOST, LOST_KEY, PUTTING, PUTTING_KEY, REPLY}
+use Rattle.diagrams.specs.declared.style.TheConstants.{REPLY_KEY, REQUEST, REQUEST_KEY, STALE}
+use Rattle.diagrams.specs.declared.style.TheConstants.{STALE_KEY, UNDER_WAY, UNDER_WAY_KEY}
 
 -- a sample of each kind of arrow
 abbrev pub arrow_samples : Markup

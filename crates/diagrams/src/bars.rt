@@ -3,31 +3,23 @@ ghost use Rattle.std.specs.Prelude.{◌≡◌, ◌++◌, OnOk};
 ghost use Rattle.markup.specs.Markup.{rendered};
 ghost use Rattle.labels.specs.Labels.{title};
 ghost use Rattle.labels.specs.Places.{IsNear, IsNearFrame};
-ghost use Rattle.diagrams.specs.Calls.{action_class, bar_markup, bottom_of};
-ghost use Rattle.diagrams.specs.Calls.{last_part, open_corners, parts, piece, shut_part, stop_of};
-ghost use Rattle.diagrams.specs.Layout.{HasClientsInOrder};
-ghost use Rattle.diagrams.specs.Words.{begin_words};
+ghost use Rattle.diagram_places.specs.Layout.{HasClientsInOrder};
+ghost use Rattle.diagrams.specs.Calls.{action_class, bar_shape, in_bar, last_part, open_corners};
+ghost use Rattle.diagrams.specs.Calls.{parts, shut_part, stop_of};
+ghost use Rattle.diagram_words.specs.Words.{begin_words};
 
-use crate::items::open_item;
-use crate::layout::{client_x, down, rows_of};
-use crate::sizes::{BAR_LEFT, BAR_RIGHT, MOMENT, STOP_LEFT, STOP_RIGHT};
 use crate::style::{ASKING, PUTTING, READING, STOP, WRITING};
-use crate::words::say_begin;
-use labels::{Frame, Shape, Way, append_line, append_polyline, append_title};
-use markup::{Attribute, AttributeName, Element, append_closing, append_empty};
+use diagram_places::sizes::{MOMENT, STOP_LEFT, STOP_RIGHT};
+use diagram_places::{bottom_of, client_x, down, piece};
+use diagram_words::say_begin;
+use labels::{Frame, Way, append_line, append_polyline, append_title};
+use markup::{Attribute, AttributeName, Element, append_closing, append_empty, open_of_class};
 use message_scenes::{CallBar, CallEnd, MessageScene, PlacedNote};
 use std::alloc::Global;
 use tag::{Action, ClientId, Memory};
 
-/// The bars of a scene.
-#[derive(Clone, Copy)]
-pub(crate) struct Bars<'a> {
-    pub(crate) alloc: Global,
-    pub(crate) scene: &'a MessageScene,
-}
-
 /// The class of the bar of such a call.
-fn action_class(action: &Action) -> &'static str
+pub(crate) fn action_class(action: &Action) -> &'static str
     ensures { result.now ≡ action_class action.now }
 {
     match action {
@@ -77,34 +69,6 @@ fn append_last(page: &mut Vec<u8>, end: &CallEnd, class: &str, frame: Frame) -> 
     }
 }
 
-/// Where a bar of that end ends, down.
-fn bottom_of(scene: &MessageScene, end: &CallEnd) -> u64
-    ensures bottom { result ≡ bottom_of scene.now end.now }
-    ensures near { IsNear result }
-{
-    match end {
-        CallEnd::Answered { row, .. } => down(MOMENT, *row),
-        CallEnd::Stopped(row) => down(MOMENT, *row),
-        CallEnd::Open => down(MOMENT, rows_of(scene)),
-    }
-}
-
-/// A piece of the client's lifeline.
-fn piece(scene: &MessageScene, client: ClientId, top: u64, bottom: u64) -> Frame
-    requires order { HasClientsInOrder scene.now }
-    requires top { IsNear top }
-    requires bottom { IsNear bottom }
-    ensures piece { result ≡ piece scene.now client top bottom }
-    ensures near { IsNearFrame result }
-{
-    Frame {
-        left: client_x(scene, BAR_LEFT, client),
-        right: client_x(scene, BAR_RIGHT, client),
-        top,
-        bottom,
-    }
-}
-
 /// Adds the parts of the bar: where its call asks, and where it puts.
 fn append_parts(page: &mut Vec<u8>, scene: &MessageScene, bar: &CallBar) -> Result<(), Memory>
     requires { HasClientsInOrder scene.now }
@@ -140,7 +104,11 @@ fn append_stop(page: &mut Vec<u8>, scene: &MessageScene, bar: &CallBar) -> Resul
 }
 
 /// Adds what the call does, as a title.
-fn append_call_title(alloc: Global, page: &mut Vec<u8>, bar: &CallBar) -> Result<(), Memory>
+pub(crate) fn append_call_title(
+    alloc: Global,
+    page: &mut Vec<u8>,
+    bar: &CallBar,
+) -> Result<(), Memory>
     ensures { OnOk result
         (page.new.items ≡ page.old.items ++ rendered (title (begin_words bar.now))) }
 {
@@ -149,18 +117,31 @@ fn append_call_title(alloc: Global, page: &mut Vec<u8>, bar: &CallBar) -> Result
     append_title(page, &words)
 }
 
-impl Shape for Bars<'_> {
-    type Item = CallBar;
+/// Adds what is seen of the bar.
+pub(crate) fn append_in_bar(
+    page: &mut Vec<u8>,
+    scene: &MessageScene,
+    bar: &CallBar,
+) -> Result<(), Memory>
+    requires { HasClientsInOrder scene.now }
+    ensures { OnOk result
+        (page.new.items ≡ page.old.items ++ rendered (in_bar scene.now bar.now)) }
+{
+    append_parts(page, scene, bar)?;
+    append_stop(page, scene, bar)
+}
 
-    ghost can_append = { λ bars. HasClientsInOrder bars.scene.now };
-
-    ghost shape = { λ bars. bar_markup bars.scene.now };
-
-    fn append(&self, page: &mut Vec<u8>, item: &CallBar) -> Result<(), Memory> {
-        open_item(page, action_class(&item.action))?;
-        append_call_title(self.alloc, page, item)?;
-        append_parts(page, self.scene, item)?;
-        append_stop(page, self.scene, item)?;
-        append_closing(page, Element::G)
-    }
+/// Adds what is seen of the bar, by itself.
+pub(crate) fn append_bar_shape(
+    page: &mut Vec<u8>,
+    scene: &MessageScene,
+    bar: &CallBar,
+) -> Result<(), Memory>
+    requires { HasClientsInOrder scene.now }
+    ensures { OnOk result
+        (page.new.items ≡ page.old.items ++ rendered (bar_shape scene.now bar.now)) }
+{
+    open_of_class(page, Element::G, action_class(&bar.action))?;
+    append_in_bar(page, scene, bar)?;
+    append_closing(page, Element::G)
 }

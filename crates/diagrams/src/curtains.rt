@@ -2,20 +2,19 @@
 //! is done in it.
 ghost use Rattle.std.specs.Prelude.{◌≡◌, ◌++◌, OnOk};
 ghost use Rattle.markup.specs.Markup.{rendered};
-ghost use Rattle.diagrams.specs.Curtains.{curtain_frame, curtain_markup, curtains, link_at};
-ghost use Rattle.diagrams.specs.Curtains.{link_back, link_next, link_to, links, start_link};
-ghost use Rattle.diagrams.specs.Curtains.{told_text};
+ghost use Rattle.diagrams.specs.Curtains.{curtain_markup, curtains, link_at, link_back, link_next};
+ghost use Rattle.diagrams.specs.Curtains.{link_to, links, start_link, told_text};
 
 use crate::bars::append_shut;
-use crate::layout::{down, replica_x, replicas_of, rows_of};
-use crate::sizes::{
-    ALL_LEFT, BACK_LEFT, BOTTOM, COMMAND_LEFT, CURTAIN_TOP, LETTERS, LINK_BASE, MOST_CURTAINS,
-    NAMES_BASE, NEXT_LEFT, RIGHT, SENTENCE_LETTERS, TOLD_LEFT, TOLD_LETTERS,
-};
 use crate::style::{
     ALL, BACK, CURTAIN, LINK, MESSAGES_LINK, MORE, NEXT, NO_CURTAINS, SENTENCE, STEP_BY_STEP,
     STEP_ID, STEP_LINK,
 };
+use diagram_places::sizes::{
+    ALL_LEFT, BACK_LEFT, COMMAND_LEFT, LETTERS, LINK_BASE, MOST_CURTAINS, NAMES_BASE, NEXT_LEFT,
+    SENTENCE_LETTERS, TOLD_LEFT, TOLD_LETTERS,
+};
+use diagram_places::{curtain_frame, down, rows_of};
 use labels::{Frame, IndexedShape, Spot, append_each_indexed, append_label};
 use markup::{Attribute, AttributeName, Element, append_closing, append_opening};
 use message_scenes::{MessageScene, StepRow};
@@ -128,18 +127,6 @@ impl IndexedShape for Curtains<'_> {
         self.append_links(page, down(LINK_BASE, index), index)?;
         self.append_told(page, down(LINK_BASE, index), item)?;
         append_closing(page, Element::G)
-    }
-}
-
-/// What the curtain of the row hides.
-fn curtain_frame(scene: &MessageScene, row: usize) -> Frame
-    ensures { result ≡ curtain_frame scene.now row }
-{
-    Frame {
-        left: 0,
-        right: replica_x(scene, RIGHT, replicas_of(scene)),
-        top: down(CURTAIN_TOP, row),
-        bottom: down(BOTTOM, rows_of(scene)),
     }
 }
 

@@ -2,24 +2,24 @@
 ghost use Rattle.std.specs.Prelude.{◌≡◌, ◌++◌, OnOk};
 ghost use Rattle.markup.specs.Markup.{opening_tag, rendered};
 ghost use Rattle.markup.specs.declared.names.Element.TheVariants as tag;
+ghost use Rattle.diagram_places.specs.Layout.{HasClientsInOrder};
 ghost use Rattle.diagrams.specs.Diagrams.{content, diagram, head, omitted_text, plane, prologue};
-ghost use Rattle.diagrams.specs.Diagrams.{shapes, svg, svg_attributes};
-ghost use Rattle.diagrams.specs.Layout.{HasClientsInOrder};
+ghost use Rattle.diagrams.specs.Diagrams.{shapes, svg, svg_attributes, texts};
 
-use crate::arrows::Arrows;
-use crate::bars::Bars;
 use crate::curtains::append_curtains;
 use crate::hearings::Hearings;
-use crate::items::{open_box, open_list};
-use crate::layout::{down, replica_x, replicas_of, rows_of};
+use crate::items::{open_box, open_hidden, open_list};
 use crate::lifelines::append_lifelines;
+use crate::lit::{Arrows, Bars};
 use crate::replicas::{Downs, Holdings};
 use crate::rows::{Reasons, Rows};
-use crate::sizes::{
-    BOTTOM, COMMAND_LEFT, HEAD_MIDDLE, HEAD_SIZE, HEAD_TIP, RIGHT, SENTENCE_LETTERS, TEXT_BASE,
-};
-use crate::style::{AUTO, HEAD, HEAD_BOX, HEAD_PATH, MORE, OMITTED, TITLE};
+use crate::strips::append_strips;
+use crate::style::{AUTO, HEAD, HEAD_BOX, HEAD_PATH, LIFELINES, MORE, OMITTED, TEXTS, TITLE};
 use crate::texts::CallTexts;
+use diagram_places::sizes::{
+    BOTTOM, COMMAND_LEFT, HEAD_MIDDLE, HEAD_SIZE, HEAD_TIP, SENTENCE_LETTERS, TEXT_BASE,
+};
+use diagram_places::{down, rows_of, width_of};
 use labels::{Spot, append_each, append_each_indexed, append_numbered, append_title};
 use markup::{Attribute, AttributeName, Element, append_closing, append_empty, append_opening};
 use message_scenes::MessageScene;
@@ -77,17 +77,17 @@ fn append_plane(alloc: Global, page: &mut Vec<u8>, scene: &MessageScene) -> Resu
     ensures { OnOk result (page.new.items ≡ page.old.items ++ rendered (plane scene.now)) }
 {
     append_each_indexed(page, &Rows { alloc, scene }, &scene.rows)?;
+    open_hidden(page, LIFELINES)?;
     append_lifelines(alloc, page, scene)?;
-    append_each(page, &Downs { alloc, scene }, &scene.downs)
+    append_each(page, &Downs { alloc, scene }, &scene.downs)?;
+    append_closing(page, Element::G)
 }
 
-/// Adds the bars of the calls, the arrows above them, and above these the texts and the reasons.
-fn append_shapes(alloc: Global, page: &mut Vec<u8>, scene: &MessageScene) -> Result<(), Memory>
+/// Adds the texts at lifelines, and the reasons.
+fn append_texts(alloc: Global, page: &mut Vec<u8>, scene: &MessageScene) -> Result<(), Memory>
     requires { HasClientsInOrder scene.now }
-    ensures { OnOk result (page.new.items ≡ page.old.items ++ rendered (shapes scene.now)) }
+    ensures { OnOk result (page.new.items ≡ page.old.items ++ rendered (texts scene.now)) }
 {
-    append_each(page, &Bars { alloc, scene }, &scene.calls)?;
-    append_each(page, &Arrows { alloc, scene }, &scene.arrows)?;
     let texts = CallTexts { alloc, scene };
     append_each(page, &texts, &scene.calls)?;
     append_each(page, &Hearings { texts }, &scene.hearings)?;
@@ -95,13 +95,24 @@ fn append_shapes(alloc: Global, page: &mut Vec<u8>, scene: &MessageScene) -> Res
     append_each_indexed(page, &Reasons { alloc }, &scene.rows)
 }
 
+/// Adds the bars of the calls, the arrows above them, and above these the texts.
+fn append_shapes(alloc: Global, page: &mut Vec<u8>, scene: &MessageScene) -> Result<(), Memory>
+    requires { HasClientsInOrder scene.now }
+    ensures { OnOk result (page.new.items ≡ page.old.items ++ rendered (shapes scene.now)) }
+{
+    append_each(page, &Bars { alloc, scene }, &scene.calls)?;
+    append_each(page, &Arrows { alloc, scene }, &scene.arrows)?;
+    open_hidden(page, TEXTS)?;
+    append_texts(alloc, page, scene)?;
+    append_closing(page, Element::G)
+}
+
 /// Opens the diagram's element.
 fn open_svg(page: &mut Vec<u8>, scene: &MessageScene) -> Result<(), Memory>
     ensures { OnOk result (page.new.items
         ≡ page.old.items ++ opening_tag tag.Svg (svg_attributes scene.now)) }
 {
-    let width = replica_x(scene, RIGHT, replicas_of(scene));
-    open_list(page, width, down(BOTTOM, rows_of(scene)))
+    open_list(page, width_of(scene), down(BOTTOM, rows_of(scene)))
 }
 
 /// Adds what stands in the diagram's element.
@@ -127,7 +138,8 @@ fn append_svg(alloc: Global, page: &mut Vec<u8>, scene: &MessageScene) -> Result
 }
 
 /// Adds the diagram: each row, each lifeline, each arrow, each call, each reply that is heard, each
-/// put and each down time of the scene. It scrolls where the window is too narrow.
+/// put and each down time of the scene. It scrolls where the window is too narrow; on paper there are
+/// strips of its rows.
 ///
 /// If it fails, a beginning of that may have been added; so it is with each function here.
 pub fn append_diagram(alloc: Global, page: &mut Vec<u8>, scene: &MessageScene) -> Result<(), Memory>
@@ -135,6 +147,7 @@ pub fn append_diagram(alloc: Global, page: &mut Vec<u8>, scene: &MessageScene) -
     ensures { OnOk result (page.new.items ≡ page.old.items ++ rendered (diagram scene.now)) }
 {
     open_box(page)?;
+    append_strips(alloc, page, scene)?;
     append_svg(alloc, page, scene)?;
     append_closing(page, Element::Div)
 }

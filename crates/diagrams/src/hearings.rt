@@ -1,11 +1,11 @@
 //! What a diagram says of the replies that clients hear.
+ghost use Rattle.diagram_places.specs.Layout.{HasClientsInOrder};
 ghost use Rattle.diagrams.specs.Hearings.{hearing_text};
-ghost use Rattle.diagrams.specs.Layout.{HasClientsInOrder};
 
 use crate::style::{COUNTED, COUNTS_NOTHING, ENOUGH, IGNORED};
 use crate::texts::CallTexts;
-use crate::words::say_votes;
 use client_phases::Taken;
+use diagram_words::say_votes;
 use labels::Shape;
 use message_scenes::Hearing;
 use tag::Memory;

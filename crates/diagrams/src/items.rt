@@ -3,13 +3,14 @@ ghost use Rattle.std.specs.Prelude.{◌≡◌, ◌++◌, OnOk};
 ghost use Rattle.markup.specs.Markup.{opening_tag};
 ghost use Rattle.markup.specs.declared.names.Element.TheVariants as tag;
 ghost use Rattle.labels.specs.Places.{IsNear};
-ghost use Rattle.diagrams.specs.Items.{box_attributes, item_attributes, list_attributes};
+ghost use Rattle.diagrams.specs.Items.{box_attributes, hidden_attributes, item_attributes};
+ghost use Rattle.diagrams.specs.Items.{list_attributes};
 
-use crate::style::{ITEM, LIST, MESSAGES, REGION, TITLE};
+use crate::style::{ITEM, LIST, MESSAGES, REGION, TITLE, TRUE};
 use markup::{Attribute, AttributeName, Element, append_opening};
 use tag::Memory;
 
-/// Opens an item of that class.
+/// Opens an item of that class, which can have the focus.
 pub(crate) fn open_item(page: &mut Vec<u8>, class: &str) -> Result<(), Memory>
     ensures { OnOk result (page.new.items
         ≡ page.old.items ++ opening_tag tag.G (item_attributes class.now)) }
@@ -17,6 +18,7 @@ pub(crate) fn open_item(page: &mut Vec<u8>, class: &str) -> Result<(), Memory>
     let attributes = [
         Attribute::Words(AttributeName::Class, class),
         Attribute::Words(AttributeName::Role, ITEM),
+        Attribute::Number(AttributeName::Tabindex, 0),
     ];
     append_opening(page, Element::G, &attributes)
 }
@@ -50,4 +52,16 @@ pub(crate) fn open_box(page: &mut Vec<u8>) -> Result<(), Memory>
         Attribute::Number(AttributeName::Tabindex, 0),
     ];
     append_opening(page, Element::Div, &attributes)
+}
+
+/// Opens a group of that class of what says nothing to who doesn't see it.
+pub(crate) fn open_hidden(page: &mut Vec<u8>, class: &str) -> Result<(), Memory>
+    ensures { OnOk result (page.new.items
+        ≡ page.old.items ++ opening_tag tag.G (hidden_attributes class.now)) }
+{
+    let attributes = [
+        Attribute::Words(AttributeName::Class, class),
+        Attribute::Words(AttributeName::AriaHidden, TRUE),
+    ];
+    append_opening(page, Element::G, &attributes)
 }

@@ -2,14 +2,14 @@
 ghost use Rattle.std.specs.Prelude.{◌≡◌, ◌<◌, ◌++◌, OnOk};
 ghost use Rattle.markup.specs.Markup.{rendered};
 ghost use Rattle.tag.specs.Limits.{replica_limit};
-ghost use Rattle.diagrams.specs.Layout.{HasClientsInOrder, replicas_of};
+ghost use Rattle.diagram_places.specs.Layout.{HasClientsInOrder, replicas_of};
 ghost use Rattle.diagrams.specs.Lifelines.{client_lifeline, each_below, lifeline, lifelines};
 ghost use Rattle.diagrams.specs.Lifelines.{replica_lifeline};
 
-use crate::layout::{client_x, down, replica_x, replicas_of, rows_of};
-use crate::sizes::{CLIENT, FOOT_BASE, LETTERS, LONG, MOMENT, NAMES_BASE, REPLICA, TOP};
 use crate::style::{CLIENT_WORD, LIFELINE, WHO};
-use crate::words::say_replica;
+use diagram_places::sizes::{CLIENT, FOOT_BASE, LETTERS, LONG, MOMENT, NAMES_BASE, REPLICA, TOP};
+use diagram_places::{client_x, down, replica_x, replicas_of, rows_of};
+use diagram_words::say_replica;
 use labels::{Shape, Spot, Way, append_each, append_label, append_line};
 use message_scenes::MessageScene;
 use sentences::append_number;

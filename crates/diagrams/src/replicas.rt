@@ -1,13 +1,12 @@
 //! What a diagram shows of replicas: when they are down, and what they hold after each put.
 ghost use Rattle.std.specs.Prelude.{◌≡◌};
-ghost use Rattle.diagrams.specs.Replicas.{down_markup, frame_of, holding_class, holding_markup};
-ghost use Rattle.diagrams.specs.Replicas.{up_at};
+ghost use Rattle.diagrams.specs.Replicas.{down_markup, holding_class, holding_markup};
 
 use crate::bars::append_shut;
-use crate::layout::{down, replica_x, rows_of};
-use crate::sizes::{DOWN_LEFT, DOWN_RIGHT, HOLDING_LEFT, LETTERS, MOMENT, TEXT_BASE};
 use crate::style::{DOWN_TIME, DOWN_WORD, HOLDS, HOLDS_OWN};
-use crate::words::say_holding;
+use diagram_places::sizes::{HOLDING_LEFT, LETTERS, TEXT_BASE};
+use diagram_places::{down, frame_of, replica_x};
+use diagram_words::say_holding;
 use labels::{Frame, Shape, Spot, append_label};
 use message_scenes::{DownTime, Holding, MessageScene};
 use std::alloc::Global;
@@ -32,28 +31,6 @@ fn holding_class(takes: bool) -> &'static str
     ensures { result.now ≡ holding_class takes }
 {
     if takes { HOLDS } else { HOLDS_OWN }
-}
-
-/// Where a down time that so ends ends, down.
-fn up_at(scene: &MessageScene, starts: Option<usize>) -> u64
-    ensures { result ≡ up_at scene.now starts }
-{
-    match starts {
-        Some(row) => down(MOMENT, row),
-        None => down(MOMENT, rows_of(scene)),
-    }
-}
-
-/// Where the down time stands.
-fn frame_of(scene: &MessageScene, time: &DownTime) -> Frame
-    ensures { result ≡ frame_of scene.now time.now }
-{
-    Frame {
-        left: replica_x(scene, DOWN_LEFT, time.replica.get()),
-        right: replica_x(scene, DOWN_RIGHT, time.replica.get()),
-        top: down(MOMENT, time.stops),
-        bottom: up_at(scene, time.starts),
-    }
 }
 
 impl Shape for Downs<'_> {

@@ -2,18 +2,19 @@
 //! where nothing was done, a band, and in it why.
 ghost use Rattle.std.specs.Prelude.{◌≡◌, ◌++◌, OnOk};
 ghost use Rattle.markup.specs.Markup.{rendered};
-ghost use Rattle.diagrams.specs.Rows.{attempt_class, band, band_of, reason_at, reason_markup};
-ghost use Rattle.diagrams.specs.Rows.{row_line, row_markup, row_words};
+ghost use Rattle.diagrams.specs.Rows.{attempt_class, band_of, reason_at, reason_markup, row_line};
+ghost use Rattle.diagrams.specs.Rows.{row_markup, row_words, source_at};
 
 use crate::bars::append_shut;
-use crate::layout::{down, replica_x, replicas_of};
-use crate::sizes::{
-    BAND_BOTTOM, BAND_TOP, COMMAND_LEFT, COMMAND_LETTERS, LINE_LETTERS, LINE_RIGHT, MOMENT,
-    REASON_LEFT, RIGHT, SENTENCE_LETTERS, STEP_LEFT, TEXT_BASE,
+use crate::style::{BAND, COMMAND, LINE_WORD, REASON, REFUSED, SCRIPT_LINK, SOURCE, STEP};
+use diagram_places::sizes::{
+    COMMAND_LEFT, COMMAND_LETTERS, LINE_LETTERS, LINE_RIGHT, MOMENT, REASON_LEFT, SENTENCE_LETTERS,
+    STEP_LEFT, TEXT_BASE,
 };
-use crate::style::{BAND, COMMAND, LINE_WORD, REASON, REFUSED, SOURCE, STEP};
-use crate::words::say_attempt;
+use diagram_places::{band, down, width_of};
+use diagram_words::say_attempt;
 use labels::{Frame, IndexedShape, Spot, Way, append_label, append_line, append_numbered};
+use markup::{Attribute, AttributeName, Element, append_closing, append_opening};
 use message_scenes::{Attempt, MessageScene, StepRow};
 use std::alloc::Global;
 use tag::Memory;
@@ -42,13 +43,24 @@ fn attempt_class(attempt: &Attempt) -> &'static str
     }
 }
 
+/// Adds the number of the line of the script, as a link to that line.
+fn append_source(alloc: Global, page: &mut Vec<u8>, y: u64, line: u64) -> Result<(), Memory>
+    ensures { OnOk result (page.new.items ≡ page.old.items ++ rendered (source_at y line)) }
+{
+    let place = Attribute::Numbered(AttributeName::Href, SCRIPT_LINK, line);
+    append_opening(page, Element::A, &[place])?;
+    let spot = Spot::new(SOURCE, LINE_RIGHT, y, LINE_LETTERS);
+    append_numbered(alloc, page, &spot, LINE_WORD, line)?;
+    append_closing(page, Element::A)
+}
+
 impl Rows<'_> {
     /// Adds the line over all columns.
     fn append_row_line(&self, page: &mut Vec<u8>, index: usize) -> Result<(), Memory>
         ensures { OnOk result (page.new.items
             ≡ page.old.items ++ rendered (row_line self.now.scene.now index)) }
     {
-        let right = replica_x(self.scene, RIGHT, replicas_of(self.scene));
+        let right = width_of(self.scene);
         append_line(
             page,
             STEP,
@@ -63,15 +75,7 @@ impl Rows<'_> {
     {
         match attempt {
             Attempt::Taken(_) => Ok(()),
-            _ => {
-                let band = Frame {
-                    left: STEP_LEFT,
-                    right: replica_x(self.scene, RIGHT, replicas_of(self.scene)),
-                    top: down(BAND_TOP, index),
-                    bottom: down(BAND_BOTTOM, index),
-                };
-                append_shut(page, BAND, band)
-            }
+            _ => append_shut(page, BAND, band(self.scene, index)),
         }
     }
 
@@ -81,8 +85,7 @@ impl Rows<'_> {
             (page.new.items ≡ page.old.items ++ rendered (row_words index row.now)) }
     {
         let y = down(TEXT_BASE, index);
-        let line = Spot::new(SOURCE, LINE_RIGHT, y, LINE_LETTERS);
-        append_numbered(self.alloc, page, &line, LINE_WORD, row.origin.line)?;
+        append_source(self.alloc, page, y, row.origin.line)?;
         let mut words = Vec::new(self.alloc);
         say_attempt(&mut words, &row.attempt)?;
         let class = attempt_class(&row.attempt);

@@ -72,6 +72,17 @@ pub(crate) const LINK: &str = "link";
 
 pub(crate) const SENTENCE: &str = "sentence";
 
+pub(crate) const LIFELINES: &str = "lifelines";
+
+pub(crate) const TEXTS: &str = "texts";
+
+pub(crate) const LIT: &str = "lit";
+
+pub(crate) const STRIPS: &str = "strips";
+
+/// How the classes of a strip begin; the number of its columns follows.
+pub(crate) const STRIP_COLUMNS: &str = "strip columns-";
+
 /// The name of the head of arrows that arrive, and its class.
 pub(crate) const HEAD: &str = "message-head";
 
@@ -86,6 +97,12 @@ pub(crate) const STEP_LINK: &str = "#step-";
 /// A link to the diagram without a curtain.
 pub(crate) const MESSAGES_LINK: &str = "#messages";
 
+/// How the id of a line of the script begins; its number follows.
+pub const SCRIPT_ID: &str = "script-";
+
+/// How a link to it begins.
+pub(crate) const SCRIPT_LINK: &str = "#script-";
+
 // ---- roles
 
 pub(crate) const REGION: &str = "region";
@@ -94,81 +111,17 @@ pub(crate) const LIST: &str = "list";
 
 pub(crate) const ITEM: &str = "listitem";
 
+pub(crate) const TRUE: &str = "true";
+
 // ---- words
 
 pub(crate) const TITLE: &str = "The messages of the run";
 
 pub(crate) const CLIENT_WORD: &str = "client ";
 
-pub(crate) const REPLICA_WORD: &str = "replica ";
-
 pub(crate) const LINE_WORD: &str = "script line ";
 
-pub(crate) const JOIN: &str = "join ";
-
-pub(crate) const INVOKE: &str = "invoke ";
-
-pub(crate) const SEND: &str = "send ";
-
-pub(crate) const DELIVER: &str = "deliver ";
-
-pub(crate) const LOSE: &str = "lose ";
-
-pub(crate) const REPEAT: &str = "repeat ";
-
-pub(crate) const RESPOND: &str = "respond ";
-
-pub(crate) const STOP_CLIENT: &str = "stop client ";
-
-pub(crate) const STOP_REPLICA: &str = "stop replica ";
-
-pub(crate) const START_REPLICA: &str = "start replica ";
-
-pub(crate) const FINISH: &str = "finish ";
-
-pub(crate) const BLANK: &str = " ";
-
-pub(crate) const COMMA: &str = ", ";
-
-pub(crate) const MESSAGE_WORD: &str = "message ";
-
-pub(crate) const FROM_CLIENT: &str = ": client ";
-
-pub(crate) const FROM_REPLICA: &str = ": replica ";
-
-pub(crate) const TO_CLIENT: &str = " to client ";
-
-pub(crate) const TO_REPLICA: &str = " to replica ";
-
-pub(crate) const ASKS: &str = "ask ";
-
-pub(crate) const PUTS: &str = "put ";
-
-pub(crate) const HELD: &str = "holds ";
-
-pub(crate) const KEPT: &str = "kept";
-
-pub(crate) const CALL_SIGN: &str = "#";
-
-pub(crate) const READS: &str = " read ";
-
-pub(crate) const WRITES: &str = " write ";
-
-pub(crate) const NOTES: &str = "notes ";
-
-pub(crate) const ANSWERS: &str = "answers ";
-
-pub(crate) const DONE: &str = "done";
-
 pub(crate) const STOPPED: &str = "stopped";
-
-pub(crate) const HOLDS_SIGN: &str = " = ";
-
-pub(crate) const KEEPS: &str = "keeps ";
-
-pub(crate) const OF: &str = " of ";
-
-pub(crate) const VOTES: &str = " votes";
 
 pub(crate) const ENOUGH: &str = "enough votes";
 

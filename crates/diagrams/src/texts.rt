@@ -1,13 +1,14 @@
 //! The texts of the calls of a diagram, at their bars.
 ghost use Rattle.std.specs.Prelude.{◌≡◌, ◌++◌, OnOk};
 ghost use Rattle.markup.specs.Markup.{rendered};
+ghost use Rattle.diagram_places.specs.Layout.{HasClientsInOrder};
 ghost use Rattle.diagrams.specs.Calls.{begin_text, call_texts, note_text, outcome_text, text_at};
-ghost use Rattle.diagrams.specs.Layout.{HasClientsInOrder};
+ghost use Rattle.diagrams.specs.Diagrams.{texts};
 
-use crate::layout::{client_x, down};
-use crate::sizes::{LETTERS, TEXT_BASE, TEXT_RIGHT};
 use crate::style::{BEGIN, NOTE, OUTCOME, STOPPED};
-use crate::words::{say_begin, say_note, say_returned};
+use diagram_places::sizes::{LETTERS, TEXT_BASE, TEXT_RIGHT};
+use diagram_places::{client_x, down};
+use diagram_words::{say_begin, say_note, say_returned};
 use labels::{Shape, Spot, append_label};
 use message_scenes::{CallBar, CallEnd, MessageScene, PlacedNote};
 use std::alloc::Global;

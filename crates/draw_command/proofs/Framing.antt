@@ -1,5 +1,6 @@
 -- The first of judged keys, a section, a page's content, and the page around it.
-use Rattle.std.proofs.Common.{ℕ, ◌≡◌, List, [], ◌++◌, append_assoc, codes, length, map, min, take, refl, sym, ap, ◌∙◌}
+use Rattle.std.proofs.Common.{ℕ, Bool, ◌≡◌, ◌||◌, List, [], ◌∷◌, ◌++◌, Option, append_assoc, codes, length, map, min, take, refl, sym, ap, ◌∙◌, subst}
+use Rattle.std.specs.List.{list_any}
 use Rattle.std.proofs.lemmas.List.{take-map, take_min}
 use Rattle.std.proofs.Math.Nat.{min_comm}
 use Rattle.markup.specs.Markup.{Markup, both, closing_tag, opening_tag, page_text, rendered}
@@ -9,8 +10,9 @@ use Rattle.draw_command.specs.Frames.{above_content, above_styles, below_content
 use Rattle.history_file.specs.declared.numbered_format.NumberedHistories.{NumberedHistories}
 use Rattle.pictures.specs.declared.picture.Picture.{Picture}
 use Rattle.judged_keys.specs.Judgements.{Judgement}
+use Rattle.call_links.specs.Ids.{bar_targets}
 use Rattle.draw_command.specs.Making.{Adds}
-use Rattle.draw_command.specs.Pages.{IsFramed, IsPictureOf, IsSectionOf, section_markup}
+use Rattle.draw_command.specs.Pages.{IsFramed, IsPictureOf, IsSectionOf, content_markup, hall_among, section_markup}
 use Rattle.draw_command.specs.declared.drawn.Drawn.{Drawn}
 use Rattle.draw_command.proofs.Adding.{adds_after, adds_both}
 
@@ -54,7 +56,22 @@ content_added front below IsTable IsSections old a b d new first tabled under dr
     let t = all.1.1 in
     (all.0, (t.0, t.3.0, t.2, t.3.1, all.1.2 ∙ ap (λ (m : Markup). both front m) (t.4 ∙ ap (λ (m : Markup). both t.0 m) t.3.2)), all.2)
 
--- the section of a picture
-pub section_added : (numbered : NumberedHistories) (drawn : Drawn) (n : ℕ) (key : Judgement) (words : List ℕ) (picture : Picture) → IsPictureOf numbered drawn key words picture
-    → (old new : List ℕ) → new ≡ old ++ rendered (section_markup n key words picture) → Adds (IsSectionOf numbered drawn n key) old new
-section_added numbered drawn n key words picture is old new added = (section_markup n key words picture, (words, picture, is, refl), added)
+-- a test of what a function makes of each
+pub any_map : {X Y : Type 0} (f : X → Y) (test : Y → Bool) (xs : List X) → list_any (λ x. test (f x)) xs ≡ list_any test (map f xs)
+any_map f test [] = refl
+any_map f test (x ∷ xs) = ap (λ (b : Bool). test (f x) || b) (any_map f test xs)
+
+-- the section of a picture, with links that begin with the targets of its bars
+pub section_added : (numbered : NumberedHistories) (drawn : Drawn) (refused : Bool) (n : ℕ) (key : Judgement) (words : List ℕ) (picture : Picture)
+    → IsPictureOf numbered drawn n key words picture → (hall : Option ℕ) → hall ≡ hall_among (length numbered.histories.halls) key.one.key
+    → (targets : List ℕ) → targets ≡ bar_targets n → (old new : List ℕ)
+    → new ≡ old ++ rendered (section_markup n refused hall key (content_markup targets picture.faulty.now words drawn.around picture))
+    → Adds (IsSectionOf numbered drawn refused n key) old new
+section_added numbered drawn refused n key words picture is hall its targets same old new added =
+    let own = hall_among (length numbered.histories.halls) key.one.key in
+    let section = λ (h : Option ℕ) (ts : List ℕ). section_markup n refused h key (content_markup ts picture.faulty.now words drawn.around picture) in (
+      section own (bar_targets n),
+      (words, picture, is, refl),
+      subst (λ (ts : List ℕ). new ≡ old ++ rendered (section own ts)) same
+          (subst (λ (h : Option ℕ). new ≡ old ++ rendered (section h targets)) its added),
+    )

@@ -4,3 +4,4 @@ mod Apart
 mod SceneOrder
 mod FoundOrders
 mod Fitting
+mod Looking

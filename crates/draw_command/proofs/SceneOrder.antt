@@ -26,4 +26,5 @@ pub in_order : (drawn : Drawn) (hall : HallRows) (key : Judgement) (faulty : Lis
 in_order drawn hall key faulty scene is = record {
   ticks = is.is.ticks.rising;
   dots = places_up hall.history.now.rows key.one.part is.shown (unwrap_or is.order []) is.points scene (drawn_points key.one.part is.order is.points is.points_are) is.is;
+  gaps = is.is.gaps.rising;
 }

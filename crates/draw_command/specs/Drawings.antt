@@ -44,6 +44,7 @@ drawn_by by.Tags orders = judged_without_values orders
 
 -- what is drawn where nothing else is asked for
 pub record IsDefault (drawn : Drawn) : Type 0 where
+  pub file : drawn.file.now ≡ []
   pub judged_by : drawn.selection.judged ≡ judged.Tags
   pub all : names_of drawn.selection ≡ []
   pub most : drawn.selection.most ≡ default_most

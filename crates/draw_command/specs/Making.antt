@@ -17,7 +17,8 @@ Adds Is old new = (markup : Markup) × Is markup × (new ≡ old ++ rendered mar
 pub record IsMadeOf (drawn : Drawn) (numbered : NumberedHistories) (all : List CheckedKey)
     (outcome : Outcome) : Type 0 where
   pub page : Markup
-  pub page_is : IsFramed page_markup (IsBelowHint (judges_no_notes drawn.selection.judged all)
+  pub page_is : IsFramed (page_markup drawn.file.now)
+      (IsBelowHint (judges_no_notes drawn.selection.judged all)
       (IsJudgedContent numbered drawn all outcome.found)) page
   pub text : outcome.text.items ≡ page_text page
   pub quiet : outcome.notes.items ≡ []

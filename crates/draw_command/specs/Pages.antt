@@ -1,6 +1,8 @@
 -- The page: a table of the keys, and for each of the first of them a section with its picture.
-use Rattle.std.specs.Prelude.{ℕ, zero, suc, ◌≡◌, ◌+◌, ◌-◌, Bool, true, false, List, [], ◌∷◌, ◌++◌}
-use Rattle.std.specs.Prelude.{cond, decimal, length, nat_lt, take}
+use Rattle.std.specs.Prelude.{ℕ, zero, suc, ◌≡◌, ◌+◌, ◌-◌, ◌==◌, ◌&&◌, not, Bool, true, false}
+use Rattle.std.specs.Prelude.{List, [], ◌∷◌, ◌++◌, Option, Some, None}
+use Rattle.std.specs.Prelude.{cond, decimal, length, nat_lt, slice_get, take}
+use Rattle.std.specs.List.{list_any}
 use Rattle.std.specs.Str.Lines.{lines}
 use Rattle.std.specs.Str.Lossy.{utf8_lossy}
 use Rattle.markup.specs.Markup.{Markup, nothing, text, element, both, each}
@@ -8,6 +10,13 @@ use Rattle.markup.specs.Texts.{of_class, plain, worded}
 use Rattle.markup.specs.declared.names.AttributeName.TheVariants as name
 use Rattle.markup.specs.declared.names.Element.TheVariants as tag
 use Rattle.history_file.specs.declared.numbered_format.NumberedHistories.{NumberedHistories}
+use Rattle.tag.specs.declared.numbers.OpId.{OpId}
+use Rattle.recorder.specs.Halls.{hall_of}
+use Rattle.recorder.specs.declared.part.Call.{Call}
+use Rattle.call_links.specs.Ids.{bar_ids, bar_targets}
+use Rattle.call_links.specs.Linked.{linked}
+use Rattle.scenes.specs.declared.scene.Bar.{Bar}
+use Rattle.cli.specs.Hints.{has_note}
 use Rattle.pictures.specs.Pictures.{picture_markup}
 use Rattle.pictures.specs.Sheets.{legend, style}
 use Rattle.pictures.specs.Tables.{table_markup as call_table}
@@ -118,40 +127,102 @@ left_out pictured count refused =
     both (rest_line word.MORE.now (count - table_size) (refused - table_size))
     (rest_line word.UNDRAWN.now (count - pictured) (refused - pictured))
 
--- what stands below the table: that, and what the pictures' signs mean
-abbrev pub below_table : ℕ → ℕ → ℕ → Markup
-below_table pictured count refused = both (left_out pictured count refused) legend
+-- what stands below the table: that, and what the pictures' signs mean, of tags if there are some
+abbrev pub below_table : ℕ → ℕ → ℕ → Bool → Markup
+below_table pictured count refused tagged = both (left_out pictured count refused) (legend tagged)
+
+-- a call on one of the keys has a note
+abbrev pub have_notes : List Judgement → Bool
+have_notes keys = list_any (λ key. has_note key.one.part) keys
 
 -- ---- a section
 
+-- a paragraph of the sentence, in which the calls that it names lead to their bars
+abbrev pub why_line : List ℕ → List OpId → List ℕ → Markup
+why_line targets calls line = element tag.P (of_class word.WHY.now) (linked targets calls line)
+
 -- a paragraph for each line of the sentences
-abbrev pub why_lines : List ℕ → Markup
-why_lines words = each (worded tag.P word.WHY.now) (lines words)
+abbrev pub why_lines : List ℕ → List OpId → List ℕ → Markup
+why_lines targets calls words = each (why_line targets calls) (lines words)
 
 -- the same of their bytes
-abbrev pub why_markup : List ℕ → Markup
-why_markup words = why_lines (utf8_lossy words)
+abbrev pub why_markup : List ℕ → List OpId → List ℕ → Markup
+why_markup targets calls words = why_lines targets calls (utf8_lossy words)
 
--- what a section says of its key: what was found, and why it is refused
-abbrev pub saying_markup : Judgement → List ℕ → Markup
-saying_markup key why = both (element tag.H2 [] (finding_said key)) (why_markup why)
+-- the numbers of the calls of a first and a last bar, if there are some
+abbrev pub span_of : Option Bar → Option Bar → Markup
+span_of None last = nothing
+span_of (Some first) None = nothing
+span_of (Some first) (Some last) =
+    both (text word.FROM_CALL.now) (both (text (decimal first.call.0))
+    (both (text word.TO_CALL.now) (text (decimal last.call.0))))
 
--- how many of the calls its picture shows
+-- those of the first and the last of these bars
+abbrev pub span_markup : List Bar → Markup
+span_markup bars = span_of (slice_get bars 0) (slice_get bars (length bars - 1))
+
+-- how to see others, if not all calls are shown
+abbrev pub others_markup : ℕ → ℕ → Markup
+others_markup shown all = cond (nat_lt shown all) (text word.OTHERS.now) nothing
+
+-- how many of the calls its picture shows, and which
 abbrev pub shown_line : Picture → Markup
-shown_line picture = counted word.SHOWN.now word.CALLS_SHOWN.now
-    (length picture.scene.now.bars.items) word.OF.now (length picture.part.now)
+shown_line picture = element tag.P (of_class word.SHOWN.now) (both
+    (numbers word.CALLS_SHOWN.now (length picture.scene.now.bars.items) word.OF.now
+    (length picture.part.now)) (both (span_markup picture.scene.now.bars.items)
+    (others_markup (length picture.scene.now.bars.items) (length picture.part.now))))
 
--- what it shows: that, the picture, and the calls as a table
-abbrev pub showing_markup : Picture → Markup
-showing_markup picture =
-    both (shown_line picture) (both (picture_markup picture) (call_table picture))
+-- one of the calls has the number
+abbrev pub has_call : List Call → ℕ → Bool
+has_call part number = list_any (λ call. call.op.0 == number) part
+
+-- the call around which calls are to be shown isn't among these, if it is so
+abbrev pub around_line : Option ℕ → List Call → Markup
+around_line None part = nothing
+around_line (Some number) part = cond (has_call part number) nothing
+    (element tag.P (of_class word.HINT.now) (both (text word.AROUND.now)
+    (both (text (decimal number)) (text word.NOT_THERE.now))))
+
+-- what a section shows: which calls, the picture, and the calls as a table
+abbrev pub showing_markup : Option ℕ → Picture → Markup
+showing_markup around picture = both (shown_line picture)
+    (both (around_line around picture.part.now)
+    (both (picture_markup picture) (call_table picture)))
+
+-- why a key is refused, and what its section shows
+abbrev pub content_markup : List ℕ → List OpId → List ℕ → Option ℕ → Picture → Markup
+content_markup targets calls why around picture =
+    both (why_markup targets calls why) (showing_markup around picture)
+
+-- the number of the key's hall among so many, if there are several
+abbrev pub hall_among : ℕ → List ℕ → Option ℕ
+hall_among halls key = cond (nat_lt 1 halls) (Some (hall_of halls key)) None
+
+-- the number of a hall, if one is to be said
+abbrev pub hall_markup : Option ℕ → Markup
+hall_markup None = nothing
+hall_markup (Some hall) = both (text word.IN_HALL.now) (text (decimal hall))
+
+-- the heading of a section: what was found of the key, and its hall, if one is to be said
+abbrev pub heading_markup : Option ℕ → Judgement → Markup
+heading_markup hall key = element tag.H2 [] (both (finding_said key) (hall_markup hall))
+
+-- beside refused keys the sections of keys with points are folded
+abbrev pub is_folded : Bool → Finding → Bool
+is_folded refused finding = refused && not (is_refused finding) && not (is_undecided finding)
+
+-- the heading, and below it the content, folded if that is so
+abbrev pub said_markup : Bool → Markup → Markup → Markup
+said_markup false heading content = both heading content
+said_markup true heading content = element tag.Details (of_class word.FOLDED.now)
+    (both (element tag.Summary [] heading) content)
 
 -- the section of the key that has that number in the table
-abbrev pub section_markup : ℕ → Judgement → List ℕ → Picture → Markup
-section_markup n key why picture =
+abbrev pub section_markup : ℕ → Bool → Option ℕ → Judgement → Markup → Markup
+section_markup n refused hall key content =
     element tag.Section (record { name = name.Id; value = word.KEY_ID.now ++ decimal n }
     ∷ record { name = name.Class; value = verdict_class key.finding } ∷ [])
-    (both (saying_markup key why) (showing_markup picture))
+    (said_markup (is_folded refused key.finding) (heading_markup hall key) content)
 
 -- ---- the page
 
@@ -163,11 +234,16 @@ styles_markup = both style (plain tag.Style word.STYLE.now)
 abbrev pub missing_line : List ℕ → Markup
 missing_line name = element tag.P (of_class word.MISSING.now) (said (missing_text name))
 
--- what stands above the table: how many keys were judged and refused, and the names that no key has
+-- the words that no call is drawn, if there are no keys
+abbrev pub none_line : ℕ → Markup
+none_line zero = worded tag.P word.HINT.now word.NO_KEYS.now
+none_line (suc count) = nothing
+
+-- what stands above the table: how many keys are refused, and the names that no key has
 abbrev pub front_markup : ℕ → ℕ → List (List ℕ) → Markup
 front_markup count refused missing = both
-    (counted word.SUM.now word.KEYS_JUDGED.now count word.REFUSED.now refused)
-    (each missing_line missing)
+    (counted word.SUM.now word.REFUSED.now refused word.OF_KEYS.now count)
+    (both (none_line count) (each missing_line missing))
 
 -- the sentence that says that values judge a history without notes, if that is to be said
 abbrev pub hint_markup : Bool → Markup
@@ -179,9 +255,14 @@ abbrev pub IsBelowHint : Bool → (Markup → Type 0) → Markup → Type 0
 IsBelowHint hinted Is markup =
     (below : Markup) × Is below × (markup ≡ both (hint_markup hinted) below)
 
--- the page around what it says and shows of keys
-abbrev pub page_markup : Markup → Markup
-page_markup content = page_frame word.TITLE.now styles_markup content
+-- the title of a page of the file of that name; one without a name has the command's
+abbrev pub title_words : List ℕ → List ℕ → List ℕ
+title_words [] command = command
+title_words (byte ∷ file) command = byte ∷ file
+
+-- the page of that file around what it says and shows of keys
+abbrev pub page_markup : List ℕ → Markup → Markup
+page_markup file content = page_frame (title_words file word.TITLE.now) styles_markup content
 
 -- what the frame makes of something of which that holds
 abbrev pub IsFramed : (Markup → Markup) → (Markup → Type 0) → Markup → Type 0
@@ -210,18 +291,24 @@ IsOne keys.Recorded key = ⊥
 
 module _ (numbered : NumberedHistories) (drawn : Drawn) where
   -- the picture of a key's scene, in which the calls are marked that show why the key is refused;
-  -- the words say why
-  pub record IsPictureOf (key : Judgement) (words : List ℕ) (picture : Picture) : Type 0 where
-    pub of_key : IsOne picture.keys key.one.key
-    pub of_part : picture.part.now ≡ key.one.part
-    pub hall : IsHallOfKey numbered key.one.key picture.hall
-    pub why : IsWhy picture.hall key words picture.faulty.now
-    pub scene : IsKeyScene drawn picture.hall key picture.faulty.now picture.scene.now
+  -- the words say why, and the ids of its bars are those of the section of that number
+  pub record IsPictureOf (n : ℕ) (key : Judgement) (words : List ℕ) (picture : Picture) : Type 0
+    where
+      pub of_key : IsOne picture.keys key.one.key
+      pub of_part : picture.part.now ≡ key.one.part
+      pub hall : IsHallOfKey numbered key.one.key picture.hall
+      pub why : IsWhy picture.hall key words picture.faulty.now
+      pub scene : IsKeyScene drawn picture.hall key picture.faulty.now picture.scene.now
+      pub ids : picture.ids.now ≡ bar_ids n
 
-  -- the section of the key that has that number in the table
-  abbrev pub IsSectionOf : ℕ → Judgement → Markup → Type 0
-  IsSectionOf n key section = (words : List ℕ) × (picture : Picture) × IsPictureOf key words picture
-      × (section ≡ section_markup n key words picture)
+  -- the section of the key that has that number in the table, on a page with refused keys or
+  -- without: its hall is named if there are several, and the calls that its sentences name lead to
+  -- their bars in its picture
+  abbrev pub IsSectionOf : Bool → ℕ → Judgement → Markup → Type 0
+  IsSectionOf refused n key section = (words : List ℕ) × (picture : Picture)
+      × IsPictureOf n key words picture × (section ≡ section_markup n refused
+      (hall_among (length numbered.histories.halls) key.one.key) key
+      (content_markup (bar_targets n) picture.faulty.now words drawn.around picture))
 
   -- what a page says and shows of these keys: how many there are, and of them how many are refused;
   -- a table of the first; and for as many as a page has room for a section
@@ -232,6 +319,6 @@ module _ (numbered : NumberedHistories) (drawn : Drawn) where
     pub table : Markup
     pub tabled : IsTableOf pictured keys table
     pub sections : Markup
-    pub drawn_are : IsEach IsSectionOf 0 (take pictured keys) sections
+    pub drawn_are : IsEach (IsSectionOf (nat_lt 0 refused)) 0 (take pictured keys) sections
     pub is : content ≡ both (front_markup (length keys) refused missing) (both table
-        (both (below_table pictured (length keys) refused) sections))
+        (both (below_table pictured (length keys) refused (have_notes keys)) sections))

@@ -1,6 +1,6 @@
 //! `abd draw`: the keys of a history, and pictures of their calls.
 use crate::drawn::Drawn;
-use crate::frame::{append_styles, begin_content, begin_page, end_page};
+use crate::frame::{append_styles, begin_content, begin_page, end_page, title_of};
 use crate::front::append_hint;
 use crate::history_pictures::add_keys;
 use crate::section::Task;
@@ -32,9 +32,10 @@ impl Presentation for Drawn<'_> {
             drawn: *self,
         };
         let mut page = Vec::new(alloc);
-        begin_page(&mut page, words::TITLE)?;
+        let title = title_of(self.file, words::TITLE);
+        begin_page(&mut page, title)?;
         append_styles(&mut page)?;
-        begin_content(&mut page, words::TITLE)?;
+        begin_content(&mut page, title)?;
         append_hint(&mut page, self.selection.judges_no_notes(keys.as_slice()))?;
         let found = add_keys(alloc, &mut page, &task, keys)?;
         end_page(&mut page)?;

@@ -10,6 +10,8 @@ use tag::OpId;
 /// Which keys are judged, how many of them have a picture, and how many calls it shows.
 #[derive(Clone, Copy, Debug)]
 pub struct Drawn<'a> {
+    /// What the history is called, if it is.
+    pub file: &'a str,
     /// Which keys are judged, by what, and how many of them have a picture, at most.
     pub selection: Selection<'a>,
     /// How many calls of a key are shown, at most, beside those that show why it is refused.
@@ -34,6 +36,7 @@ impl<'a> Drawn<'a> {
         ensures { IsDefault result }
     {
         Drawn {
+            file: "",
             selection: Selection {
                 judged: Judged::Tags,
                 keys: Names::of(None),
@@ -46,6 +49,7 @@ impl<'a> Drawn<'a> {
 
     /// What the words ask for.
     pub fn of(asked: &DrawAsked<'a>) -> Drawn<'a>
+        ensures file { result.file.now ≡ asked.now.keys.history.now }
         ensures judged { result.selection.judged
             ≡ drawn_by asked.now.by (is_some asked.now.keys.orders) }
         ensures keys { names_of result.selection
@@ -59,6 +63,7 @@ impl<'a> Drawn<'a> {
             Some(call) => Some(u64::from(call)),
         };
         Drawn {
+            file: asked.keys.history,
             selection: Selection {
                 judged: judged_by(asked),
                 ..Selection::of(&asked.keys)

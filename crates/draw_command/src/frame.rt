@@ -3,7 +3,7 @@ ghost use Rattle.std.specs.Prelude.{◌≡◌, ◌++◌, OnOk};
 ghost use Rattle.markup.specs.Markup.{rendered};
 ghost use Rattle.draw_command.specs.Frames.{above_content, above_styles, below_content};
 ghost use Rattle.draw_command.specs.Frames.{metas_markup};
-ghost use Rattle.draw_command.specs.Pages.{styles_markup};
+ghost use Rattle.draw_command.specs.Pages.{styles_markup, title_words};
 
 use crate::words;
 use markup::{
@@ -12,6 +12,13 @@ use markup::{
 };
 use pictures::append_style;
 use tag::Memory;
+
+/// The title of a page of the file of that name; one without a name has the command's.
+pub fn title_of<'a>(file: &'a str, command: &'a str) -> &'a str
+    ensures { result.now ≡ title_words file.now command.now }
+{
+    if file.is_empty() { command } else { file }
+}
 
 /// Adds what a browser has to know.
 #[tactic(auto, unfolding(markup::specs::Markup::rendered))]

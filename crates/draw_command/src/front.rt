@@ -2,7 +2,8 @@
 ghost use Rattle.std.specs.Prelude.{◌≡◌, ◌++◌, length, map, OnOk};
 ghost use Rattle.markup.specs.Markup.{each, rendered};
 ghost use Rattle.explain_command.specs.Lines.{missing_text};
-ghost use Rattle.draw_command.specs.Pages.{front_markup, hint_markup, missing_line, said};
+ghost use Rattle.draw_command.specs.Pages.{front_markup, hint_markup, missing_line, none_line};
+ghost use Rattle.draw_command.specs.Pages.{said};
 
 use crate::texts::{append_counted, append_said};
 use crate::words;
@@ -57,7 +58,19 @@ pub fn append_hint(page: &mut Vec<u8>, hinted: bool) -> Result<(), Memory>
     }
 }
 
-/// Adds how many keys were judged and how many of them are refused, and the names that no key has.
+/// Says that no call is drawn, if there are no keys.
+#[tactic(auto, unfolding(markup::specs::Markup::rendered))]
+fn append_none(page: &mut Vec<u8>, count: usize) -> Result<(), Memory>
+    ensures { OnOk result (page.new.items ≡ page.old.items ++ rendered (none_line count)) }
+{
+    if count == 0 {
+        append_worded(page, Element::P, words::HINT, words::NO_KEYS)
+    } else {
+        Ok(())
+    }
+}
+
+/// Adds how many of the keys are refused, and the names that no key has.
 #[tactic(auto, unfolding(markup::specs::Markup::rendered))]
 pub(crate) fn append_front(
     alloc: Global,
@@ -69,8 +82,9 @@ pub(crate) fn append_front(
         (length findings.now.keys.items) findings.now.refused
         (map (λ name. name.now) missing.now))) }
 {
-    let judged = (words::KEYS_JUDGED, findings.keys.as_slice().len() as u64);
+    let count = findings.keys.as_slice().len();
     let refused = (words::REFUSED, findings.refused as u64);
-    append_counted(page, words::SUM, judged, refused)?;
+    append_counted(page, words::SUM, refused, (words::OF_KEYS, count as u64))?;
+    append_none(page, count)?;
     append_missing(alloc, page, missing)
 }

@@ -1,5 +1,7 @@
 //! What a page says and shows of judged keys.
-ghost use Rattle.std.specs.Prelude.{All, OnOk, map};
+ghost use Rattle.std.specs.Prelude.{◌≡◌, All, OnOk, map};
+ghost use Rattle.std.specs.List.{list_any};
+ghost use Rattle.cli.specs.Hints.{has_note};
 ghost use Rattle.judged_keys.specs.Halls.{HasLinesOfEach};
 ghost use Rattle.judged_keys.specs.Judgements.{judgement_of};
 ghost use Rattle.draw_command.specs.Drawings.{IsDrawable};
@@ -9,9 +11,17 @@ ghost use Rattle.draw_command.specs.Pages.{IsContentOf};
 use crate::front::append_front;
 use crate::section::{Task, add_sections};
 use crate::table::{add_table, append_below};
-use judged_keys::Findings;
+use cli::has_note;
+use judged_keys::{Findings, JudgedKey};
 use std::alloc::Global;
 use tag::Memory;
+
+/// Whether a call on one of the keys has a note.
+fn have_notes(keys: &[JudgedKey<'_>]) -> bool
+    ensures { result ≡ list_any (λ key. has_note key.one.now.part) keys.now }
+{
+    keys.iter().any(|key| has_note(&key.one.part))
+}
 
 /// Adds what the page says and shows of the keys.
 pub(crate) fn add_content(
@@ -32,6 +42,7 @@ pub(crate) fn add_content(
     let first = &keys[..keys.len().min(pictured)];
     append_front(alloc, page, findings, missing)?;
     add_table(alloc, page, pictured, keys)?;
-    append_below(page, pictured, keys.len(), findings.refused)?;
-    add_sections(alloc, page, task, first)
+    let tagged = have_notes(keys);
+    append_below(page, pictured, keys.len(), findings.refused, tagged)?;
+    add_sections(alloc, page, task, findings.refused > 0, first)
 }

@@ -216,17 +216,18 @@ fn append_left_out(
 }
 
 /// Adds what stands below the table: how many keys have no row, how many no picture, and what the
-/// pictures' signs mean.
+/// pictures' signs mean: of tags, if calls have some.
 #[tactic(auto, unfolding(markup::specs::Markup::rendered))]
 pub(crate) fn append_below(
     page: &mut Vec<u8>,
     pictured: usize,
     count: usize,
     refused: usize,
+    tagged: bool,
 ) -> Result<(), Memory>
     ensures { OnOk result (page.new.items
-        ≡ page.old.items ++ rendered (below_table pictured count refused)) }
+        ≡ page.old.items ++ rendered (below_table pictured count refused tagged)) }
 {
     append_left_out(page, pictured, count, refused)?;
-    append_legend(page)
+    append_legend(page, tagged)
 }

@@ -24,6 +24,9 @@ pub(crate) const SHOWN: &str = "shown";
 pub(crate) const MISSING: &str = "missing";
 
 pub(crate) const HINT: &str = "hint";
+
+pub(crate) const FOLDED: &str = "folded";
+
 /// The key of that number in the table.
 pub(crate) const KEY_ID: &str = "key-";
 /// A link to it.
@@ -41,9 +44,12 @@ pub(crate) const VIEWPORT: &str = "width=device-width, initial-scale=1";
 
 pub(crate) const TITLE: &str = "abd draw";
 
-pub(crate) const KEYS_JUDGED: &str = "Keys: ";
+pub(crate) const REFUSED: &str = "Keys refused: ";
 
-pub(crate) const REFUSED: &str = ", refused: ";
+pub(crate) const OF_KEYS: &str = " of ";
+
+pub(crate) const NO_KEYS: &str =
+    "No call is drawn: the history has none, or none on the key that was asked for.";
 
 pub(crate) const CAPTION: &str = "The keys, refused ones first";
 
@@ -72,9 +78,23 @@ pub(crate) const NO_NOTES: &str =
     "No call has a note: abd decide judges the history by its values, and abd draw \
 --by values draws it so.";
 
+pub(crate) const IN_HALL: &str = ", hall ";
+
 pub(crate) const CALLS_SHOWN: &str = "Calls shown: ";
 
 pub(crate) const OF: &str = " of ";
+
+pub(crate) const FROM_CALL: &str = ", from call ";
+
+pub(crate) const TO_CALL: &str = " to call ";
+
+pub(crate) const OTHERS: &str =
+    ". Where calls are left out, a row says how many. --around shows those around another call, --calls \
+more or fewer.";
+
+pub(crate) const AROUND: &str = "--around: call ";
+
+pub(crate) const NOT_THERE: &str = " isn\u{2019}t among these calls.";
 
 // ---- styles
 
@@ -90,4 +110,6 @@ section{border-top:1px solid var(--faint);margin-top:2rem;padding-top:.5rem}\
 section.yes,section.no{color:var(--ink)}\
 section.no h2{color:var(--fault-edge)}section.yes h2{color:var(--yes)}\
 h2{margin-top:0}.why{margin:0;font-family:ui-monospace,monospace;font-size:13px}\
-.sum,.rest,.shown{color:var(--soft)}.missing{color:var(--fault-edge)}";
+.sum{font-size:1.2em;font-weight:bold}.rest,.shown{color:var(--soft)}\
+.why a{color:var(--fault-edge);font-weight:bold}\
+.folded summary h2{display:inline}.missing{color:var(--fault-edge)}";

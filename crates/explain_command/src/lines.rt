@@ -34,8 +34,8 @@ fn append_found(text: &mut Vec<u8>, finding: Finding) -> Result<(), Memory>
     }
 }
 
-/// Adds the line that says what was found of the key. Without memory a beginning of it may have been
-/// added; so it is with each function here.
+/// Adds the line that says what was found of the key. Out of memory, it may have added a
+/// beginning of it; so it is with each function here.
 #[tactic(auto, unfolding(crate::specs::Lines::finding_line))]
 pub fn append_finding(text: &mut Vec<u8>, key: &Key, finding: Finding) -> Result<(), Memory>
     ensures { OnOk result (text.new.items ≡ text.old.items ++ finding_line key.now finding) }

@@ -62,7 +62,7 @@ fn append_stale(text: &mut Vec<u8>, stale: usize, reads: usize) -> Result<(), Me
     append(text, " (a later write had ended before they began)\n")
 }
 
-/// Says why the key is refused; its calls have their rows in the hall. Without memory the text may end
+/// Says why the key is refused; its calls have their rows in the hall. Out of memory, the text may end
 /// within a sentence.
 pub fn append_reason(
     text: &mut Vec<u8>,

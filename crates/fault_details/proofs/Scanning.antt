@@ -1,20 +1,20 @@
 -- A line that is looked for in bytes that come one after another.
-use Rattle.std.proofs.Common.{ℕ, ◌≡◌, ◌≢◌, ◌<◌, ◌≤◌, ◌+◌, ◌-◌, ◌^◌, ◌==◌, ◌⊎◌, inl, inr, List, [], ◌∷◌, ◌++◌, Bool, true, false, length, take, cond, refl, sym, ap, ◌∙◌, append_assoc, append-nil, length-append, suc-ne-zero, arith, subst}
-use Rattle.std.specs.Prelude.{All, MatchOption, Option, Some, None}
+use Rattle.std.proofs.Common.{ℕ, ◌≡◌, ◌≢◌, ◌<◌, ◌≤◌, ◌+◌, ◌-◌, ◌^◌, ◌==◌, ◌⊎◌, inl, inr, List, [], ◌∷◌, ◌++◌, Bool, true, false, length, take, cond, refl, sym, ap, ◌∙◌, append_assoc, append-nil, length-append, arith, subst}
+use Rattle.std.specs.Prelude.{MatchOption, Option, Some, None}
 use Rattle.std.specs.Io.KnownBytes.{Consumes, IsAtEnd}
 use Rattle.counted_devices.specs.DeviceStates.{DeviceStates}
 use Rattle.counted_devices.specs.Deliveries.{Delivers}
 use Rattle.counted_devices.proofs.Consuming.{Consumes-join}
 use Rattle.std.specs.List.{flat_map}
 use Rattle.std.proofs.Math.Seq.{take-append-add}
-use Rattle.std.proofs.lemmas.Bool.{cases_lt, eqb-true, eqb-false, ne_eqb, both_ways}
+use Rattle.std.proofs.lemmas.Bool.{cases_lt, eqb-true, eqb-false, both_ways}
 use Rattle.std.proofs.lemmas.List.{take-append-le, take-take, take_all, length-take, length-take-le}
 use Rattle.std.proofs.lemmas.List.Elements.{All-append, All-nil}
 use Rattle.counted_devices.specs.Cuts.{with_end, HasNoEnd, Splits}
 use Rattle.counted_devices.proofs.CutLemmas.{Splits-join, Splits-none, Splits-line}
 use Rattle.fault_details.specs.declared.found_line.FoundLine.{FoundLine}
 use Rattle.fault_details.specs.declared.found_line.Scan.{Scan}
-use Rattle.fault_details.specs.FoundLines.{Ends, EndsLine, FindsLine, IsEnded, IsLineOf, IsLineIn, IsMissing, IsScan, LacksLine, Takes, first_of, kept_after, most_kept}
+use Rattle.fault_details.specs.FoundLines.{Ends, EndsLine, FindsLine, IsEnded, IsLineOf, IsLineIn, IsMissing, IsScan, Takes, first_of, kept_after, most_kept}
 
 -- what is kept of a part, and then of the bytes after it, is what is kept of both
 kept_more : (k : ℕ) (part bytes : List ℕ) → take k part ++ take (k - length (take k part)) bytes ≡ take k (part ++ bytes)

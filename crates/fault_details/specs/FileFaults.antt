@@ -2,7 +2,6 @@
 use Rattle.std.specs.Prelude.{ℕ, ◌≡◌, ◌⊎◌, ◌++◌, ◌==◌, ◌&&◌, List, [], ◌∷◌, Bool, true, false}
 use Rattle.std.specs.Prelude.{Option, Some, None, Err, codes, decimal, min, nat_le, option_map}
 use Rattle.std.specs.Prelude.{slice_get, take, unwrap_or, if◌then◌else◌}
-use Rattle.std.specs.Io.KnownBytes.{IsAtEnd}
 use Rattle.serde_json.specs.Data.{Data}
 use Rattle.serde_json.specs.View.{view}
 use Rattle.tag.specs.Names.{is_key}
@@ -203,18 +202,22 @@ said [] = codes "  the file can't be read again as it was\n"
 said (byte ∷ bytes) = byte ∷ bytes
 
 module _ {L : Type 0} (Adds : FoundLine → L → List ℕ → List ℕ → Type 0) where
-  -- what is said of a line that was found or not
+  -- what is said of a line that is there or not
   abbrev pub AddsFound : L → Option FoundLine → List ℕ → Type 0
   AddsFound fault None body = body ≡ []
   AddsFound fault (Some line) body = Adds line fault [] body
 
-  -- that is said of the line of that number, of those that a reader gave
-  pub record Says (reader : DeviceStates) (number : ℕ) (fault : L) (text : List ℕ) : Type 0 where
-    pub found : Option FoundLine
-    pub finds : FindsLine reader number found
+  -- that is said of the line
+  pub record SaysOfLine (line : Option FoundLine) (fault : L) (text : List ℕ) : Type 0 where
     pub body : List ℕ
-    pub adds : AddsFound fault found body
+    pub adds : AddsFound fault line body
     pub is : text ≡ said body
+
+  -- it is said of the line of that number, of those that a reader gave
+  pub record Says (reader : DeviceStates) (number : ℕ) (fault : L) (text : List ℕ) : Type 0 where
+    pub line : Option FoundLine
+    pub finds : FindsLine reader number line
+    pub says : SaysOfLine line fault text
 
 -- of a fault of a line that is said, of others nothing
 abbrev pub Explains : {L : Type 0} → (FoundLine → L → List ℕ → List ℕ → Type 0) → DeviceStates → ℕ

@@ -2,6 +2,7 @@ pub mod Beginnings
 pub mod Demands
 pub mod FileFaults
 pub mod FoundLines
+pub mod KeptBytes
 pub mod LineDetails
 pub mod Needed
 pub mod RowDetails

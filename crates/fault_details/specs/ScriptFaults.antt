@@ -12,7 +12,6 @@ use Rattle.fault_script.specs.declared.fault.LineFault as script
 use Rattle.fault_script.specs.Faults.{ScriptError}
 use Rattle.fault_script.specs.Numbers.{line_fault_number, line_fault_text}
 use Rattle.fault_script.specs.Scripts.{IsScript, script_faults}
-use Rattle.file_format.specs.declared.fault.LineFault as file
 use Rattle.file_format.specs.declared.fault.LineFault.TheVariants as fault
 use Rattle.file_format.specs.Faults.{FaultKind, FileFault}
 use Rattle.sentences.specs.Words.{numbered}

@@ -7,8 +7,8 @@ ghost use Rattle.fault_details.specs.declared.demands.LineKind.TheVariants as ki
 ghost use Rattle.fault_details.specs.FileFaults.{AddsAfter, AddsAtHall, AddsByItself, AddsHistory};
 ghost use Rattle.fault_details.specs.FileFaults.{AddsHistoryIn, AddsHistoryLine, AddsInHalls, AddsKeyHall};
 ghost use Rattle.fault_details.specs.FileFaults.{AddsOrders, AddsRow, is_of_keys};
-ghost use Rattle.fault_details.specs.FileFaults.{Explains, IsFaulty, OfParsed, Tells, hall_in, halls_told};
-ghost use Rattle.fault_details.specs.FileFaults.{hall_line, key_text, needs_earlier_rows};
+ghost use Rattle.fault_details.specs.FileFaults.{Explains, IsFaulty, OfParsed, SaysOfLine, Tells};
+ghost use Rattle.fault_details.specs.FileFaults.{hall_in, hall_line, halls_told, key_text, needs_earlier_rows};
 ghost use Rattle.fault_details.specs.FileFaults.{number_or_zero, said};
 
 use crate::demand::{number_of, text_of};
@@ -301,13 +301,33 @@ pub(crate) fn said(mut text: Vec<u8>) -> Result<Vec<u8>, Memory>
     Ok(text)
 }
 
-/// Why a history file has its first fault, in lines of their own, each after two blanks; of a fault of
-/// the device, and of want of memory, nothing. Where the line has the fault no more, it says so.
+/// Why the line of a history file has that fault, in lines of their own, each after two blanks. Where the line
+/// isn't there, or has the fault no more, it says so.
 ///
-/// The file is read again, up to the line of the fault: by `reader`, which gives that line, and where
-/// the fault depends on earlier rows by `again`, which gives those. Both begin where the file begins, so
-/// the file is no pipe.
-/// Besides the rows that are needed it keeps two lines.
+/// Where the fault depends on earlier rows `again` gives them: it begins where the file begins. Besides the rows
+/// that are needed it keeps two lines.
+pub fn explain_history_line<S: Read + Drop>(
+    rt: &(impl Threads + Sync),
+    alloc: Global,
+    line: Option<FoundLine>,
+    fault: LineFault,
+    again: S,
+) -> Result<Vec<u8>, Memory>
+    ensures { IfOk result (λ text. SaysOfLine (AddsHistory (S.remaining again)) line fault text.items) }
+{
+    let mut text = Vec::new(alloc);
+    let Some(line) = line else {
+        return said(text);
+    };
+    append_history(rt, &mut text, &line, fault, again)?;
+    said(text)
+}
+
+/// Why a history file has its first fault, as `explain_history_line` says it of the line of the fault; of a fault
+/// of the device, and of out of memory, nothing.
+///
+/// The file is read again, up to the line of the fault: by `reader`, which gives that line, and where the fault
+/// depends on earlier rows by `again`, which gives those. Both begin where the file begins.
 pub fn explain_history_fault<R: CountedRead, S: Read + Drop>(
     rt: &(impl Threads + Sync),
     alloc: Global,
@@ -318,20 +338,37 @@ pub fn explain_history_fault<R: CountedRead, S: Read + Drop>(
     ensures { IfOk result (λ text. Explains (AddsHistory (S.remaining again))
         (states R.remaining R.failures reader.old reader.new) fault.line fault.kind text.items) }
 {
-    let mut text = Vec::new(alloc);
     let FaultKind::Line(kind) = fault.kind else {
-        return Ok(text);
+        return Ok(Vec::new(alloc));
     };
-    let Some(line) = find_line(alloc, reader, fault.line)? else {
-        return said(text);
-    };
-    append_history(rt, &mut text, &line, kind, again)?;
+    let line = find_line(alloc, reader, fault.line)?;
+    explain_history_line(rt, alloc, line, kind, again)
+}
+
+/// Why the line of an order file has that fault, in lines of their own, each after two blanks. Where the line
+/// isn't there, or has the fault no more, it says so.
+pub fn explain_orders_line(
+    alloc: Global,
+    line: Option<FoundLine>,
+    fault: LineFault,
+) -> Result<Vec<u8>, Memory>
+    ensures { IfOk result (λ text. SaysOfLine AddsOrders line fault text.items) }
+{
+    let mut text = Vec::new(alloc);
+    if let Some(line) = line {
+        append_by_itself(
+            &mut text,
+            &line,
+            LineKind::OrderHeader,
+            LineKind::Piece,
+            fault,
+        )?;
+    }
     said(text)
 }
 
-/// Why an order file has its first fault, in lines of their own, each after two blanks; of a fault of
-/// the device, and of want of memory, nothing. Where the line has the fault no more, it says so. The
-/// reader gives the file again, from its beginning.
+/// Why an order file has its first fault, as `explain_orders_line` says it of the line of the fault; of a fault
+/// of the device, and of out of memory, nothing. The reader gives the file again, from its beginning.
 pub fn explain_orders_fault<R: CountedRead>(
     alloc: Global,
     reader: &mut R,
@@ -340,18 +377,9 @@ pub fn explain_orders_fault<R: CountedRead>(
     ensures { IfOk result (λ text. Explains AddsOrders
         (states R.remaining R.failures reader.old reader.new) fault.line fault.kind text.items) }
 {
-    let mut text = Vec::new(alloc);
     let FaultKind::Line(kind) = fault.kind else {
-        return Ok(text);
+        return Ok(Vec::new(alloc));
     };
-    if let Some(line) = find_line(alloc, reader, fault.line)? {
-        append_by_itself(
-            &mut text,
-            &line,
-            LineKind::OrderHeader,
-            LineKind::Piece,
-            kind,
-        )?;
-    }
-    said(text)
+    let line = find_line(alloc, reader, fault.line)?;
+    explain_orders_line(alloc, line, kind)
 }

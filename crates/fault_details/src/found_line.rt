@@ -18,17 +18,17 @@ const KEPT: usize = 65_537;
 
 /// A line of a file, and where it stands.
 #[derive(Debug, Drop)]
-pub(crate) struct FoundLine {
+pub struct FoundLine {
     /// Its number, from 1.
-    pub(crate) number: u64,
+    pub number: u64,
     /// The file's first line, without its end: its first 65,537 bytes.
-    pub(crate) first: Vec<u8>,
+    pub first: Vec<u8>,
     /// The line, without its end: its first 65,537 bytes.
-    pub(crate) bytes: Vec<u8>,
+    pub bytes: Vec<u8>,
     /// Whether it has its end.
-    pub(crate) has_end: bool,
+    pub has_end: bool,
     /// How many bytes stand before it.
-    pub(crate) begins: u64,
+    pub begins: u64,
 }
 
 /// The lines of a file so far.
@@ -181,7 +181,7 @@ impl Scan {
 /// The line of that number, from 1, of the file that the reader gives. `None` comes where the file
 /// has fewer lines, or the reader fails before its end; the last line may be empty. It keeps no other
 /// line than the first.
-pub(crate) fn find_line<R: CountedRead>(
+pub fn find_line<R: CountedRead>(
     alloc: Global,
     reader: &mut R,
     number: u64,

@@ -1,7 +1,7 @@
 //! Why a script has its first fault.
 ghost use Rattle.std.specs.Prelude.{IfOk, OnOk};
 ghost use Rattle.counted_devices.specs.DeviceStates.{states};
-ghost use Rattle.fault_details.specs.FileFaults.{Explains};
+ghost use Rattle.fault_details.specs.FileFaults.{Explains, SaysOfLine};
 ghost use Rattle.fault_details.specs.ScriptFaults.{AddsScript};
 
 use crate::demand::{Allowed, append_allowed};
@@ -234,11 +234,26 @@ fn append_script_line(text: &mut Vec<u8>, line: &FoundLine, fault: LineFault) ->
     append_sentence(text, words.as_slice())
 }
 
-/// Why a script has its first fault, in one line after two blanks, with no control character; of a
-/// fault of the device, and of want of memory, nothing. The reader gives the script again, from its
-/// beginning. Where it has the line no more, that is said.
+/// Why the line of a script has that fault, in one line after two blanks, with no control character. Where the
+/// line isn't there, that is said.
 ///
 /// Which word is named, and the other words of the line, are only tested.
+pub fn explain_script_line(
+    alloc: Global,
+    line: Option<FoundLine>,
+    fault: LineFault,
+) -> Result<Vec<u8>, Memory>
+    ensures { IfOk result (λ text. SaysOfLine AddsScript line fault text.items) }
+{
+    let mut text = Vec::new(alloc);
+    if let Some(line) = line {
+        append_script_line(&mut text, &line, fault)?;
+    }
+    said(text)
+}
+
+/// Why a script has its first fault, as `explain_script_line` says it of the line of the fault; of a fault of the
+/// device, and of out of memory, nothing. The reader gives the script again, from its beginning.
 pub fn explain_script_fault<R: CountedRead>(
     alloc: Global,
     reader: &mut R,
@@ -247,12 +262,9 @@ pub fn explain_script_fault<R: CountedRead>(
     ensures { IfOk result (λ text. Explains AddsScript
         (states R.remaining R.failures reader.old reader.new) fault.line fault.kind text.items) }
 {
-    let mut text = Vec::new(alloc);
     let ErrorKind::Line(kind) = fault.kind else {
-        return Ok(text);
+        return Ok(Vec::new(alloc));
     };
-    if let Some(line) = find_line(alloc, reader, fault.line)? {
-        append_script_line(&mut text, &line, kind)?;
-    }
-    said(text)
+    let line = find_line(alloc, reader, fault.line)?;
+    explain_script_line(alloc, line, kind)
 }

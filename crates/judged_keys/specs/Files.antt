@@ -5,7 +5,7 @@ use Rattle.recorder.specs.declared.order.KeyOrder.{KeyOrder}
 use Rattle.counted_devices.specs.DeviceStates.{DeviceStates}
 use Rattle.counted_devices.specs.Deliveries.{ReadsFrom}
 use Rattle.file_format.specs.HistoriesFormat.{histories_format}
-use Rattle.file_format.specs.OrderFormat.{AreJoined}
+use Rattle.file_format.specs.OrderFormat.{AreJoined, order_format}
 use Rattle.file_format.specs.Readings.{Reads}
 use Rattle.history_file.specs.NumberedRows.{MakesNumbered}
 use Rattle.history_file.specs.declared.numbered_format.NumberedHistories.{NumberedHistories}
@@ -14,16 +14,35 @@ use Rattle.parallel_keys.specs.CheckedKeys.{checked_keys}
 use Rattle.parallel_keys.specs.Histories.{AreHallParts}
 use Rattle.cli.specs.Devices.{FileStates, WriterStates}
 use Rattle.cli.specs.Outcomes.{Ends}
-use Rattle.cli.specs.Readings.{ReadsPieces}
+use Rattle.cli.specs.Readings.{IsHistoryRead, ReadsOrders, ReadsPieces, StopsFile}
 use Rattle.cli.specs.Reports.{StopsBoth, StopsHistory}
 use Rattle.cli.specs.declared.outcome.Outcome.{Outcome}
 use Rattle.cli.specs.declared.status.Status.{Status}
 use Rattle.judged_keys.specs.Halls.{HasLinesOfEach}
+use Rattle.judged_keys.specs.declared.files.FaultyFile.{FaultyFile}
+use Rattle.judged_keys.specs.declared.files.FaultyFile.TheVariants as faulty
 use Rattle.judged_keys.specs.declared.files.Files.{Files}
 
 -- the reader came to its end, and gave these histories, each row with its line
 abbrev pub ReadsNumbered : DeviceStates → NumberedHistories → Type 0
 ReadsNumbered reader numbered = ReadsFrom (Reads histories_format MakesNumbered) reader numbered
+
+-- the reading of the history stopped at that fault; or it was read, and that of the orders did
+abbrev pub StopsAt : DeviceStates → DeviceStates → FaultyFile → Type 0
+StopsAt history orders (faulty.History fault) = StopsFile histories_format history fault
+StopsAt history orders (faulty.Orders fault) =
+    IsHistoryRead history × StopsFile order_format orders fault
+
+-- the same of a history without orders
+abbrev pub StopsAtHistory : DeviceStates → FaultyFile → Type 0
+StopsAtHistory history (faulty.History fault) = StopsFile histories_format history fault
+StopsAtHistory history (faulty.Orders fault) = ⊥
+
+-- both files were read
+pub record AreRead (history orders : DeviceStates) : Type 0 where
+  pub history_read : IsHistoryRead history
+  pub are : List KeyOrder
+  pub orders_read : ReadsOrders orders are
 
 -- each hall has its lines, and no key two orders
 pub record CanBeJudged (files : Files) : Type 0 where

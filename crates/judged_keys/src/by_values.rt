@@ -1,5 +1,6 @@
 //! Whether a key's calls have an order, by their values, and which one.
 ghost use Rattle.std.specs.Prelude.{IfOk, MatchOption};
+ghost use Rattle.recorder.specs.Parts.{IsSequence};
 ghost use Rattle.value_order.specs.Decisions.{LacksFaults};
 ghost use Rattle.value_order.specs.Doubts.{IsLeastDoubt};
 ghost use Rattle.value_order.specs.Writers.{IsInDoubt};
@@ -46,6 +47,13 @@ fn order_in_doubt(alloc: Global, part: &Part<'_>, doubt: Doubt) -> Result<Option
     }
 }
 
+/// What holds of every part.
+fn attest(part: &Part<'_>)
+    ensures { IsSequence part.now }
+{
+    let _ = part.len();
+}
+
 /// Judges the key by the values of its calls; where they leave it open, by the order that the tags make.
 ///
 /// `Undecided` comes only where a read has two writers, there is no fault, and the tags aren't sound. It
@@ -54,7 +62,7 @@ fn order_in_doubt(alloc: Global, part: &Part<'_>, doubt: Doubt) -> Result<Option
 pub(crate) fn by_values(alloc: Global, one: &KeyToCheck<'_>) -> Result<Finding, Memory>
     ensures { IfOk result (IsFinding judged.Values (what_of one.now)) }
 {
-    let _sequence = one.part.len();
+    attest(&one.part);
     a_fault_refutes();
     match decide_by_values(alloc, &one.part)? {
         ValueVerdict::Atomic => Ok(Finding::Atomic),
@@ -74,7 +82,7 @@ pub(crate) fn by_values(alloc: Global, one: &KeyToCheck<'_>) -> Result<Finding, 
 pub fn decide_key(alloc: Global, part: &Part<'_>) -> Result<Decision, Memory>
     ensures { IfOk result (IsKeyDecision part.now) }
 {
-    let _sequence = part.len();
+    attest(part);
     a_fault_refutes();
     match order_by_values(alloc, part)? {
         Decision::Atomic(order) => Ok(Decision::Atomic(order)),

@@ -23,8 +23,8 @@ mod telling;
 mod wording;
 
 pub use by_values::decide_key;
-pub use commands::{judge_history_command, judge_orders_command};
-pub use files::{Files, files_in, history_in};
+pub use commands::{Ended, judge_history_command, judge_orders_command};
+pub use files::{FaultyFile, Files, files_in, history_in};
 pub use find_hall::hall_of;
 pub use finding::{Finding, Findings, JudgedKey, find_each, judge};
 pub use judged::Judged;

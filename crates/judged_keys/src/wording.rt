@@ -15,7 +15,7 @@ use tag::Memory;
 
 /// The words in which it is told what was found of keys, and of which keys that is told.
 ///
-/// Each of its functions adds to a text. Without memory a beginning of what it adds may have been added.
+/// Each of its functions adds to a text. Out of memory, it may have added a beginning of that.
 pub trait Wording {
     /// Which keys are judged.
     ghost selected: { Self → Selection };

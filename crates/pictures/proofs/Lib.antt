@@ -3,3 +3,4 @@ pub mod Finding
 pub mod Rendering
 pub mod Rows
 mod Readable
+mod Naming

@@ -1,17 +1,23 @@
 -- Rows of ticks and dots: each has its own, in the order of their places.
-use Rattle.std.proofs.Common.{ℕ, ◌≡◌, ◌<◌, ◌≤◌, ◌+◌, zero, suc, Bool, true, false, cond, nat_le, nat_lt, List, [], ◌∷◌, Some, get_or, map, count_by, refl, ap, ◌∙◌, arith}
+use Rattle.std.proofs.Common.{ℕ, ◌≡◌, ◌<◌, ◌≤◌, ◌+◌, zero, suc, Bool, true, false, cond, nat_le, nat_lt, List, [], ◌∷◌, Some, get_or, map, count_by, refl, sym, ap, ◌∙◌, inl, inr, arith}
 use Rattle.std.specs.List.{slice_get}
 use Rattle.std.specs.List.Sorted.{IsNonDecreasing, IsStrictlyIncreasing}
+use Rattle.std.proofs.lemmas.Bool.{cases_lt}
 use Rattle.std.proofs.lemmas.Bool.Decides.{nat_tests}
 use Rattle.std.proofs.lemmas.List.Kept.{AllPairs-from_increasing}
 use Rattle.std.proofs.lemmas.List.Sums.{count_by-le-length, sum_by-cons}
 use Rattle.std.proofs.lemmas.Option.{same_Some, slice_get_within, get_or_from_slice_get}
+use Rattle.tag.proofs.Lists.{slice_get-map_at}
 use Rattle.tag.proofs.Options.{none_some}
+use Rattle.scenes.specs.declared.gaps.Gap.{Gap}
 use Rattle.scenes.specs.declared.scene.Dot.{Dot}
 use Rattle.scenes.specs.declared.scene.Scene.{Scene}
 use Rattle.labels.proofs.Counts.{below, not_below}
-use Rattle.pictures.specs.Layout.{HasRowsInOrder, IsInOrder, row_of_dot, row_of_place, rows_of}
+use Rattle.pictures.specs.Layout.{HasRowsInOrder, IsInOrder, dots_before, gaps_up_to, row_of_dot, row_of_gap, row_of_place, rows_of, ticks_before}
 use Rattle.pictures.proofs.Counts.{mapped_not_falling}
+
+not_up_to : (m n : ℕ) → n < m → nat_le m n ≡ false
+not_up_to m n less = grind (arith, nat_tests)
 
 up_to : (m n : ℕ) → m ≤ n → nat_le m n ≡ true
 up_to m n le = grind (arith, nat_tests)
@@ -104,7 +110,51 @@ dots_rise dots up i j d e le at_i at_j =
     let rise = mapped_not_falling (λ (x : Dot). x.place) dots up i j d le (slice_get_within dots j e at_j) in
     omega (arith, first, second, rise)
 
+-- a later gap is at a later place
+gaps_rise : (gaps : List Gap) → IsStrictlyIncreasing (map (λ (g : Gap). g.place) gaps) → (i j : ℕ) (g h : Gap) → i < j
+    → slice_get gaps i ≡ Some g → slice_get gaps j ≡ Some h → g.place < h.place
+gaps_rise gaps up i j g h less at_i at_j =
+    ticks_rise (map (λ (x : Gap). x.place) gaps) up i j g.place h.place less (slice_get-map_at (λ (x : Gap). x.place) gaps i g at_i)
+    (slice_get-map_at (λ (x : Gap). x.place) gaps j h at_j)
+
 module _ (scene : Scene) (ordered : IsInOrder scene) where
+  -- no fewer gaps stand up to a later place
+  gaps_more : (p q : ℕ) → p ≤ q → gaps_up_to scene.gaps.items p ≤ gaps_up_to scene.gaps.items q
+  gaps_more p q le = count_less (λ (g : Gap). nat_le g.place p) (λ (g : Gap). nat_le g.place q)
+      (λ g is. up_to g.place q (let h = from_up_to g.place p is in omega (arith, h, le))) scene.gaps.items
+
+  -- how many gaps stand up to a place, beside one of them
+  gaps_past : (i p : ℕ) (g : Gap) → slice_get scene.gaps.items i ≡ Some g → g.place ≤ p → i < gaps_up_to scene.gaps.items p
+  gaps_past i p g at le = count_at_least (λ (x : Gap). nat_le x.place p) scene.gaps.items i g at
+      (λ k y earlier at_k. up_to y.place p (elim (cases_lt k i) [
+        | inl h ↦ let rise = gaps_rise scene.gaps.items ordered.gaps k i y g h at_k at in omega (arith, rise, le)
+        | inr h ↦
+            let same : k ≡ i = omega (arith, earlier, h) in
+            let one : y ≡ g = same_Some y g (sym at_k ∙ ap (slice_get scene.gaps.items) same ∙ at) in
+            let place : y.place ≡ g.place = ap (λ (x : Gap). x.place) one in
+            omega (arith, place, le)
+      ]))
+
+  gaps_short : (i p : ℕ) (g : Gap) → slice_get scene.gaps.items i ≡ Some g → p < g.place → gaps_up_to scene.gaps.items p ≤ i
+  gaps_short i p g at less = count_at_most (λ (x : Gap). nat_le x.place p) scene.gaps.items i
+      (λ k y later at_k. not_up_to y.place p (elim (cases_lt i k) [
+        | inl h ↦ let rise = gaps_rise scene.gaps.items ordered.gaps i k g y h at at_k in omega (arith, rise, less)
+        | inr h ↦
+            let same : k ≡ i = omega (arith, later, h) in
+            let one : y ≡ g = same_Some y g (sym at_k ∙ ap (slice_get scene.gaps.items) same ∙ at) in
+            let place : y.place ≡ g.place = ap (λ (x : Gap). x.place) one in
+            omega (arith, place, less)
+      ]))
+
+  -- no fewer ticks and dots stand before a later place
+  before_more : (p q : ℕ) → p ≤ q → ticks_before scene.ticks.items p + dots_before scene.dots.items p
+      ≤ ticks_before scene.ticks.items q + dots_before scene.dots.items q
+  before_more p q le =
+      let ticks = count_less (λ (t : ℕ). nat_lt t p) (λ (t : ℕ). nat_lt t q) (λ t is. below t q (let h = from_below t p is in omega (arith, h, le))) scene.ticks.items in
+      let dots = count_less (λ (d : Dot). nat_lt d.place p) (λ (d : Dot). nat_lt d.place q)
+      (λ d is. below d.place q (let h = from_below d.place p is in omega (arith, h, le))) scene.dots.items in
+      omega (arith, ticks, dots)
+
   ticks_in_order : (i j p q : ℕ) → i < j → slice_get scene.ticks.items i ≡ Some p → slice_get scene.ticks.items j ≡ Some q
       → row_of_place scene p < row_of_place scene q
   ticks_in_order i j p q less at_i at_j =
@@ -115,7 +165,8 @@ module _ (scene : Scene) (ordered : IsInOrder scene) where
       let dots = count_less (λ (d : Dot). nat_lt d.place p) (λ (d : Dot). nat_lt d.place q)
       (λ d is. below d.place q (let h = from_below d.place p is in omega (arith, h, rise))) scene.dots.items
       in
-      omega (arith, ticks, dots)
+      let gaps = gaps_more p q (omega (arith, rise)) in
+      omega (arith, ticks, dots, gaps)
 
   dots_in_order : (i j : ℕ) (d e : Dot) → i < j → slice_get scene.dots.items i ≡ Some d → slice_get scene.dots.items j ≡ Some e
       → row_of_dot scene i d.place < row_of_dot scene j e.place
@@ -124,7 +175,8 @@ module _ (scene : Scene) (ordered : IsInOrder scene) where
       let ticks = count_less (λ (t : ℕ). nat_le t d.place) (λ (t : ℕ). nat_le t e.place)
       (λ t is. up_to t e.place (let h = from_up_to t d.place is in omega (arith, h, rise))) scene.ticks.items
       in
-      omega (arith, ticks)
+      let gaps = gaps_more d.place e.place rise in
+      omega (arith, ticks, gaps)
 
   -- a dot stands in no row above that of an earlier place, or of its own
   pub dot_not_above : (j p : ℕ) (d : Dot) → slice_get scene.dots.items j ≡ Some d → p ≤ d.place → row_of_place scene p ≤ row_of_dot scene j d.place
@@ -135,7 +187,8 @@ module _ (scene : Scene) (ordered : IsInOrder scene) where
       let dots = count_at_most (λ (x : Dot). nat_lt x.place p) scene.dots.items j (λ k y later at_k.
       not_below y.place p (let rise = dots_rise scene.dots.items ordered.dots j k d y later at_j at_k in omega (arith, rise, le)))
       in
-      omega (arith, ticks, dots)
+      let gaps = gaps_more p d.place le in
+      omega (arith, ticks, dots, gaps)
 
   -- and above that of a later place
   pub dot_above_place : (j p : ℕ) (d : Dot) → slice_get scene.dots.items j ≡ Some d → d.place < p → row_of_dot scene j d.place < row_of_place scene p
@@ -146,14 +199,16 @@ module _ (scene : Scene) (ordered : IsInOrder scene) where
       let dots = count_at_least (λ (x : Dot). nat_lt x.place p) scene.dots.items j d at_j (λ k y earlier at_k.
       below y.place p (let rise = dots_rise scene.dots.items ordered.dots k j y d earlier at_k at_j in omega (arith, rise, less)))
       in
-      omega (arith, ticks, dots)
+      let gaps = gaps_more d.place p (omega (arith, less)) in
+      omega (arith, ticks, dots, gaps)
 
   -- and within the rows
   pub dot_within_rows : (j : ℕ) (d : Dot) → slice_get scene.dots.items j ≡ Some d → row_of_dot scene j d.place < rows_of scene
   dot_within_rows j d at_j =
       let ticks = count_by-le-length (λ (t : ℕ). nat_le t d.place) scene.ticks.items in
       let within = slice_get_within scene.dots.items j d at_j in
-      omega (arith, ticks, within)
+      let gaps = count_by-le-length (λ (g : Gap). nat_le g.place d.place) scene.gaps.items in
+      omega (arith, ticks, within, gaps)
 
   tick_above_dot : (i j p : ℕ) (d : Dot) → slice_get scene.ticks.items i ≡ Some p → slice_get scene.dots.items j ≡ Some d → p ≤ d.place
       → row_of_place scene p < row_of_dot scene j d.place
@@ -165,11 +220,62 @@ module _ (scene : Scene) (ordered : IsInOrder scene) where
       let dots = count_at_most (λ (x : Dot). nat_lt x.place p) scene.dots.items j (λ k y later at_k.
       not_below y.place p (let rise = dots_rise scene.dots.items ordered.dots j k d y later at_j at_k in omega (arith, rise, le)))
       in
-      omega (arith, ticks, dots)
+      let gaps = gaps_more p d.place le in
+      omega (arith, ticks, dots, gaps)
 
   dot_above_tick : (i j p : ℕ) (d : Dot) → slice_get scene.ticks.items i ≡ Some p → slice_get scene.dots.items j ≡ Some d → d.place < p
       → row_of_dot scene j d.place < row_of_place scene p
   dot_above_tick i j p d at_i at_j less = dot_above_place j p d at_j less
+
+  gaps_in_order : (i j : ℕ) (g h : Gap) → i < j → slice_get scene.gaps.items i ≡ Some g → slice_get scene.gaps.items j ≡ Some h
+      → row_of_gap scene i g.place < row_of_gap scene j h.place
+  gaps_in_order i j g h less at_i at_j =
+      let rise = gaps_rise scene.gaps.items ordered.gaps i j g h less at_i at_j in
+      let before = before_more g.place h.place (omega (arith, rise)) in
+      omega (arith, before, less)
+
+  gap_above_tick : (i p : ℕ) (g : Gap) → slice_get scene.gaps.items i ≡ Some g → g.place ≤ p → row_of_gap scene i g.place < row_of_place scene p
+  gap_above_tick i p g at le =
+      let before = before_more g.place p le in
+      let past = gaps_past i p g at le in
+      omega (arith, before, past)
+
+  tick_above_gap : (i j p : ℕ) (g : Gap) → slice_get scene.gaps.items i ≡ Some g → slice_get scene.ticks.items j ≡ Some p → p < g.place
+      → row_of_place scene p < row_of_gap scene i g.place
+  tick_above_gap i j p g at at_j less =
+      let ticks = count_more (λ (t : ℕ). nat_lt t p) (λ (t : ℕ). nat_lt t g.place)
+      (λ t is. below t g.place (let h = from_below t p is in omega (arith, h, less))) scene.ticks.items j p at_j
+      (not_below p p (omega arith)) (below p g.place less)
+      in
+      let dots = count_less (λ (d : Dot). nat_lt d.place p) (λ (d : Dot). nat_lt d.place g.place)
+      (λ d is. below d.place g.place (let h = from_below d.place p is in omega (arith, h, less))) scene.dots.items
+      in
+      let short = gaps_short i p g at less in
+      omega (arith, ticks, dots, short)
+
+  gap_above_dot : (i j : ℕ) (g : Gap) (d : Dot) → slice_get scene.gaps.items i ≡ Some g → slice_get scene.dots.items j ≡ Some d → g.place ≤ d.place
+      → row_of_gap scene i g.place < row_of_dot scene j d.place
+  gap_above_dot i j g d at at_j le =
+      let ticks = count_less (λ (t : ℕ). nat_lt t g.place) (λ (t : ℕ). nat_le t d.place)
+      (λ t is. up_to t d.place (let h = from_below t g.place is in omega (arith, h, le))) scene.ticks.items
+      in
+      let dots = count_at_most (λ (x : Dot). nat_lt x.place g.place) scene.dots.items j (λ k y later at_k.
+      not_below y.place g.place (let rise = dots_rise scene.dots.items ordered.dots j k d y later at_j at_k in omega (arith, rise, le)))
+      in
+      let past = gaps_past i d.place g at le in
+      omega (arith, ticks, dots, past)
+
+  dot_above_gap : (i j : ℕ) (g : Gap) (d : Dot) → slice_get scene.gaps.items i ≡ Some g → slice_get scene.dots.items j ≡ Some d → d.place < g.place
+      → row_of_dot scene j d.place < row_of_gap scene i g.place
+  dot_above_gap i j g d at at_j less =
+      let ticks = count_less (λ (t : ℕ). nat_le t d.place) (λ (t : ℕ). nat_lt t g.place)
+      (λ t is. below t g.place (let h = from_up_to t d.place is in omega (arith, h, less))) scene.ticks.items
+      in
+      let dots = count_at_least (λ (x : Dot). nat_lt x.place g.place) scene.dots.items j d at_j (λ k y earlier at_k.
+      below y.place g.place (let rise = dots_rise scene.dots.items ordered.dots k j y d earlier at_k at_j in omega (arith, rise, less)))
+      in
+      let short = gaps_short i d.place g at less in
+      omega (arith, ticks, dots, short)
 
   pub rows_in_order : HasRowsInOrder scene
   rows_in_order = record {
@@ -177,4 +283,9 @@ module _ (scene : Scene) (ordered : IsInOrder scene) where
     dots = dots_in_order;
     tick_above_dot = tick_above_dot;
     dot_above_tick = dot_above_tick;
+    gaps = gaps_in_order;
+    gap_above_tick = gap_above_tick;
+    tick_above_gap = tick_above_gap;
+    gap_above_dot = gap_above_dot;
+    dot_above_gap = dot_above_gap;
   }

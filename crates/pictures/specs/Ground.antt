@@ -1,15 +1,12 @@
--- What bars stand on: a column for each lane, and a row for each tick.
-use Rattle.std.specs.Prelude.{ℕ, ◌+◌, ◌/◌, ◌++◌, decimal, length}
-use Rattle.markup.specs.Markup.{Markup, both}
-use Rattle.labels.specs.Labels.{label_markup, line_markup}
-use Rattle.explanations.specs.Sentences.{line_at}
-use Rattle.explanations.specs.declared.hall_rows.HallRows.{HallRows}
+-- What bars stand on: a column for each lane, and a row for each tick and for each gap.
+use Rattle.std.specs.Prelude.{ℕ, ◌+◌, ◌/◌, List, length}
+use Rattle.markup.specs.Markup.{Markup}
+use Rattle.labels.specs.Labels.{line_markup}
+use Rattle.scenes.specs.declared.gaps.Gap.{Gap}
 use Rattle.scenes.specs.declared.scene.Scene.{Scene}
-use Rattle.pictures.specs.declared.sizes.TheConstants.{COLUMN_LEFT, FLOOR, LINE_LETTERS, LINE_RIGHT}
-use Rattle.pictures.specs.declared.sizes.TheConstants.{MIDDLE, ROW_TOP, TEXT_BASE}
-use Rattle.pictures.specs.declared.style.TheConstants.{CLIENT, CLIENT_WORD, LANE, LINE, LINE_WORD}
-use Rattle.pictures.specs.declared.style.TheConstants.{TICK}
-use Rattle.pictures.specs.Layout.{across, column_width, down, room_of, row_of_place, rows_of}
+use Rattle.pictures.specs.declared.sizes.TheConstants.{COLUMN_LEFT, FLOOR, MIDDLE, ROW_TOP}
+use Rattle.pictures.specs.declared.style.TheConstants.{GAP, LANE, TICK}
+use Rattle.pictures.specs.Layout.{across, column_width, down, row_of_gap, row_of_place, rows_of}
 
 module _ (scene : Scene) where
   -- the middle of a lane's column
@@ -29,22 +26,19 @@ module _ (scene : Scene) where
   abbrev pub lane_markup : ℕ → ℕ → Markup
   lane_markup index client = guide index
 
-  -- the name of a lane's client, at that height
-  abbrev pub client_name : ℕ → ℕ → ℕ → Markup
-  client_name y lane client = label_markup CLIENT.now (middle_of lane) y (room_of scene)
-      (CLIENT_WORD.now ++ decimal client)
-
-  -- a line over all columns, at that height
-  abbrev pub tick_line : ℕ → Markup
-  tick_line y = line_markup TICK.now (record {
+  -- a line of that class over all columns, at that height
+  abbrev pub level_line : List ℕ → ℕ → Markup
+  level_line class y = line_markup class (record {
     x1 = COLUMN_LEFT;
     y1 = y;
     x2 = across scene COLUMN_LEFT (length scene.lanes.items);
     y2 = y;
   })
 
-  -- the tick of a place: a line in its row, and the line of the history file at the left
-  abbrev pub tick_markup : HallRows → ℕ → Markup
-  tick_markup hall place = both (tick_line (down MIDDLE (row_of_place scene place)))
-      (label_markup LINE.now LINE_RIGHT (down TEXT_BASE (row_of_place scene place)) LINE_LETTERS
-      (LINE_WORD.now ++ decimal (line_at hall place)))
+  -- the tick of a place: a line in its row
+  abbrev pub tick_markup : ℕ → Markup
+  tick_markup place = level_line TICK.now (down MIDDLE (row_of_place scene place))
+
+  -- the gap of that index: a line in its row
+  abbrev pub gap_markup : ℕ → Gap → Markup
+  gap_markup index gap = level_line GAP.now (down MIDDLE (row_of_gap scene index gap.place))

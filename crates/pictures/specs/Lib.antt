@@ -2,6 +2,7 @@ pub mod Layout
 pub mod Keys
 pub mod Words
 pub mod Ground
+pub mod Strips
 pub mod Dots
 pub mod Frames
 pub mod Readable

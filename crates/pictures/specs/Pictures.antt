@@ -1,6 +1,6 @@
 -- The picture of calls: the ground, the line along the order, the bars and the dots.
-use Rattle.std.specs.Prelude.{ℕ, ◌==◌, Bool, nat_lt, if◌then◌else◌, List, [], ◌∷◌, length}
-use Rattle.std.specs.Prelude.{Option}
+use Rattle.std.specs.Prelude.{ℕ, ◌==◌, Bool, nat_lt, if◌then◌else◌, List, [], ◌∷◌, ◌++◌, length}
+use Rattle.std.specs.Prelude.{Option, decimal}
 use Rattle.std.specs.List.{find, list_any}
 use Rattle.markup.specs.Markup.{Markup, NamedText, nothing, text, element, both, each}
 use Rattle.markup.specs.declared.names.AttributeName.TheVariants as name
@@ -17,11 +17,12 @@ use Rattle.scenes.specs.declared.scene.Bar.{Bar}
 use Rattle.scenes.specs.declared.scene.Scene.{Scene}
 use Rattle.pictures.specs.declared.keys.CallKeys.{CallKeys}
 use Rattle.pictures.specs.declared.picture.Picture.{Picture}
-use Rattle.pictures.specs.declared.sizes.TheConstants.{BOTTOM, FOOT_BASE, LONG, NAMES_BASE, RIGHT}
+use Rattle.pictures.specs.declared.sizes.TheConstants.{BOTTOM, FOOT_BASE, LONG, RIGHT}
 use Rattle.pictures.specs.declared.style.TheConstants.{FAULTY_READ, FAULTY_WRITE, PICTURE, READ}
 use Rattle.pictures.specs.declared.style.TheConstants.{TITLE, WRITE}
 use Rattle.pictures.specs.Layout.{across, down, rows_of}
-use Rattle.pictures.specs.Ground.{client_name, lane_markup, tick_markup}
+use Rattle.pictures.specs.Ground.{gap_markup, lane_markup, tick_markup}
+use Rattle.pictures.specs.Strips.{client_name, lines_strip, names_strip}
 use Rattle.pictures.specs.Dots.{dot_markup, path_markup}
 use Rattle.pictures.specs.Frames.{corner_of, shape}
 use Rattle.pictures.specs.Keys.{key_of, said_key, title_words}
@@ -49,6 +50,12 @@ module _ (scene : Scene) where
       then each_from (client_name scene (down FOOT_BASE (rows_of scene))) 0 scene.lanes.items
       else nothing
 
+  -- what bars stand on: the clients' names below, the lanes, the ticks, and the gaps
+  abbrev pub ground : Markup
+  ground = both foot (both (each_from (lane_markup scene) 0 scene.lanes.items)
+      (both (each (tick_markup scene) scene.ticks.items)
+      (each_from (gap_markup scene) 0 scene.gaps.items)))
+
   -- the size of the picture
   abbrev pub svg_attributes : List NamedText
   svg_attributes = image_attributes (across scene RIGHT (length scene.lanes.items))
@@ -68,12 +75,16 @@ module _ (p : Picture) where
   abbrev pub in_bar : Bar → Call → List ℕ → Markup
   in_bar bar call key = both (sentence key call)
       (both (shape p.scene.now bar (corner_of call.action))
-      (texts p.scene.now bar (said_key p.keys key) call))
+      (texts p.scene.now bar (is_faulty call.op) (said_key p.keys key) call))
 
-  -- the bar of a call on that key, in the class of what it does
+  -- the id of the call's bar, and the class of what the call does
+  abbrev pub bar_attributes : Call → List NamedText
+  bar_attributes call = words_of name.Id (p.ids.now ++ decimal call.op.0)
+      ∷ words_of name.Class (class_of call.action (is_faulty call.op)) ∷ []
+
+  -- the bar of a call on that key
   abbrev pub call_bar : Bar → Call → List ℕ → Markup
-  call_bar bar call key = element tag.G
-      (words_of name.Class (class_of call.action (is_faulty call.op)) ∷ []) (in_bar bar call key)
+  call_bar bar call key = element tag.G (bar_attributes call) (in_bar bar call key)
 
   -- the key that the call is on
   abbrev pub own_key : Call → Option (List ℕ)
@@ -84,12 +95,6 @@ module _ (p : Picture) where
   bar_markup bar = if_any (λ call. if_any (call_bar bar call) (own_key call))
       (call_of p.part.now bar.call)
 
-  -- what bars stand on: the clients' names, the lanes, and the ticks
-  abbrev pub ground : Markup
-  ground = both (each_from (client_name p.scene.now NAMES_BASE) 0 p.scene.now.lanes.items)
-      (both (foot p.scene.now) (both (each_from (lane_markup p.scene.now) 0 p.scene.now.lanes.items)
-      (each (tick_markup p.scene.now p.hall) p.scene.now.ticks.items)))
-
   -- the line along the order, the bars above it, and the dots above these
   abbrev pub calls_markup : Markup
   calls_markup = both (path_markup p.scene.now) (both (each bar_markup p.scene.now.bars.items)
@@ -98,8 +103,9 @@ module _ (p : Picture) where
   -- the picture's element: its title, the ground, and the calls
   abbrev pub svg : Markup
   svg = element tag.Svg (svg_attributes p.scene.now)
-      (both (picture_title p.keys) (both ground calls_markup))
+      (both (picture_title p.keys) (both (ground p.scene.now) calls_markup))
 
-  -- the picture
+  -- the picture, below the strips that stay in sight
   abbrev pub picture_markup : Markup
-  picture_markup = element tag.Div (words_of name.Class PICTURE.now ∷ []) svg
+  picture_markup = element tag.Div (words_of name.Class PICTURE.now ∷ [])
+      (both (names_strip p.scene.now) (both (lines_strip p.scene.now p.hall) svg))

@@ -10,6 +10,8 @@ use Rattle.pictures.specs.declared.style.TheConstants.{BEGINS_HEADING, CALLS}
 use Rattle.pictures.specs.declared.style.TheConstants.{ANSWERED_HEADING, ANSWER_HEADING}
 use Rattle.pictures.specs.declared.style.TheConstants.{CALL_HEADING, CALL_SIGN, CLIENT}
 use Rattle.pictures.specs.declared.style.TheConstants.{CLIENT_HEADING, CLIENT_WORD, DOES}
+use Rattle.pictures.specs.declared.style.TheConstants.{FAULT_SIGN, GAP, GAP_CALL, GAP_CALLS}
+use Rattle.pictures.specs.declared.style.TheConstants.{GAP_SIGN, LINES, NAMES, OMITTED}
 use Rattle.pictures.specs.declared.style.TheConstants.{DOES_HEADING, DONE, DOT, FAULTY_KEY}
 use Rattle.pictures.specs.declared.style.TheConstants.{FAULTY_READ, FAULTY_WRITE, LANE, LEGEND}
 use Rattle.pictures.specs.declared.style.TheConstants.{LINE, LINE_WORD, NOTED, NOTED_HEADING}
@@ -42,7 +44,8 @@ pub record HasTexts (scene : Scene) (bar : Bar) : Type 0 where
 abbrev pub class_names : List (List ℕ)
 class_names = PICTURE.now ∷ LANE.now ∷ CLIENT.now ∷ TICK.now ∷ LINE.now ∷ PATH.now ∷ DOT.now
     ∷ NUMBER.now ∷ READ.now ∷ WRITE.now ∷ FAULTY_READ.now ∷ FAULTY_WRITE.now ∷ OPEN.now
-    ∷ DOES.now ∷ NOTED.now ∷ ANSWERS.now ∷ LEGEND.now ∷ CALLS.now ∷ []
+    ∷ DOES.now ∷ NOTED.now ∷ ANSWERS.now ∷ LEGEND.now ∷ CALLS.now ∷ NAMES.now ∷ LINES.now
+    ∷ GAP.now ∷ OMITTED.now ∷ []
 
 -- what a legend says of the kinds of bars
 abbrev pub legend_words : List (List ℕ)
@@ -60,4 +63,4 @@ call_phrases = READS.now ∷ WRITES.now ∷ NOTES.now ∷ ANSWER.now ∷ DONE.no
 -- other words of a picture
 abbrev pub other_words : List (List ℕ)
 other_words = TITLE.now ∷ ALL_KEYS.now ∷ CLIENT_WORD.now ∷ LINE_WORD.now ∷ CALL_SIGN.now
-    ∷ TABLE_TITLE.now ∷ []
+    ∷ TABLE_TITLE.now ∷ FAULT_SIGN.now ∷ GAP_SIGN.now ∷ GAP_CALL.now ∷ GAP_CALLS.now ∷ []

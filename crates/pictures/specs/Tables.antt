@@ -1,5 +1,5 @@
 -- The table of the calls of a picture: a row for each bar.
-use Rattle.std.specs.Prelude.{ℕ, false, List, [], ◌∷◌, ◌++◌, Some, decimal}
+use Rattle.std.specs.Prelude.{ℕ, Bool, false, List, [], ◌∷◌, ◌++◌, Some, decimal}
 use Rattle.markup.specs.Markup.{Markup, text, element, both, each}
 use Rattle.markup.specs.declared.names.AttributeName.TheVariants as name
 use Rattle.markup.specs.declared.names.Element.TheVariants as tag
@@ -19,7 +19,7 @@ use Rattle.pictures.specs.Keys.{said_key}
 use Rattle.pictures.specs.Pictures.{call_of, class_of, is_faulty, own_key}
 use Rattle.pictures.specs.Texts.{if_any}
 use Rattle.pictures.specs.Words.{action_words, line_words, name_words, note_words}
-use Rattle.pictures.specs.Words.{response_words}
+use Rattle.pictures.specs.Words.{numbered_words, response_words}
 
 -- a cell with those words
 abbrev pub cell : List ℕ → Markup
@@ -28,6 +28,7 @@ cell words = element tag.Td [] (text (text_of words))
 -- what a cell with that content says
 abbrev pub content_words : Content → List ℕ
 content_words (content.Number number) = decimal number
+content_words (content.Call op faulty) = numbered_words faulty [] op
 content_words (content.Does name action) = name_words name.now ++ action_words false action.now
 content_words (content.Answers response) = response_words response.now
 
@@ -45,8 +46,9 @@ abbrev pub headings : Markup
 headings = element tag.Tr [] (each heading columns)
 
 -- what a call does: its number, its client, its key's name and its action, and what it answers
-abbrev pub call_cells : List ℕ → Call → Markup
-call_cells name call = both (cell (decimal call.op.0)) (both (cell (decimal call.client))
+abbrev pub call_cells : Bool → List ℕ → Call → Markup
+call_cells faulty name call = both (cell (numbered_words faulty [] call.op))
+    (both (cell (decimal call.client))
     (both (cell (name_words name ++ action_words false call.action))
     (cell (response_words call.response))))
 
@@ -65,7 +67,8 @@ module _ (p : Picture) where
   abbrev pub call_row : Bar → Call → List ℕ → Markup
   call_row bar call key = element tag.Tr
       (words_of name.Class (class_of call.action (is_faulty p call.op)) ∷ [])
-      (both (call_cells (said_key p.keys key) call) (line_cells p.hall bar call))
+      (both (call_cells (is_faulty p call.op) (said_key p.keys key) call)
+      (line_cells p.hall bar call))
 
   -- the row of a bar, with the call of its number
   abbrev pub row_markup : Bar → Markup

@@ -1,5 +1,5 @@
 -- What stands in a bar: what its call does, the tag that it noted, and what it answers.
-use Rattle.std.specs.Prelude.{ℕ, Bool, List, ◌++◌, Option, Some, None}
+use Rattle.std.specs.Prelude.{ℕ, Bool, false, true, List, ◌++◌, Option, Some, None}
 use Rattle.markup.specs.Markup.{Markup, nothing, both}
 use Rattle.labels.specs.Labels.{label_markup}
 use Rattle.recorder.specs.declared.part.Call.{Call}
@@ -9,8 +9,8 @@ use Rattle.pictures.specs.declared.sizes.TheConstants.{TEXT_BASE, TEXT_LEFT}
 use Rattle.pictures.specs.declared.style.TheConstants.{ANSWERS, DOES, NOTED, NOTES}
 use Rattle.pictures.specs.declared.texts.BarText.{BarText}
 use Rattle.pictures.specs.declared.texts.BarText.TheVariants as bar_text
-use Rattle.pictures.specs.Layout.{across, down, is_narrow, room_of, row_of_place}
-use Rattle.pictures.specs.Words.{begin_words, end_words, note_words, unless}
+use Rattle.pictures.specs.Layout.{across, down, room_of, row_of_place}
+use Rattle.pictures.specs.Words.{begin_words, end_words, fitted, note_words, unless}
 
 -- what is made of what there is, if there is any
 abbrev pub if_any : {X : Type 0} → (X → Markup) → Option X → Markup
@@ -25,20 +25,26 @@ text_class bar_text.Answer = ANSWERS.now
 
 -- what it says of the bar's call: its number, the name of its key, and what it does; its tag; or
 -- what it answers
-abbrev pub text_words : BarText → Bool → List ℕ → Call → List ℕ
-text_words bar_text.Begin briefly name call = begin_words briefly name call
-text_words bar_text.Note briefly name call = unless briefly NOTES.now ++ note_words call.note
-text_words bar_text.Answer briefly name call = end_words briefly call.response
+abbrev pub text_words : BarText → Bool → Bool → List ℕ → Call → List ℕ
+text_words bar_text.Begin faulty briefly name call = begin_words faulty briefly name call
+text_words bar_text.Note faulty briefly name call =
+    unless briefly NOTES.now ++ note_words call.note
+text_words bar_text.Answer faulty briefly name call = end_words briefly call.response
+
+-- the same, briefly if there is no room for it
+abbrev pub fitted_words : ℕ → BarText → Bool → List ℕ → Call → List ℕ
+fitted_words room text faulty name call =
+    fitted room (text_words text faulty false name call) (text_words text faulty true name call)
 
 module _ (scene : Scene) where
   -- such a text in a lane's column, in the row of a place
-  abbrev pub text_at : BarText → ℕ → List ℕ → Call → ℕ → Markup
-  text_at text lane name call place = label_markup (text_class text) (across scene TEXT_LEFT lane)
-      (down TEXT_BASE (row_of_place scene place)) (room_of scene)
-      (text_words text (is_narrow scene) name call)
+  abbrev pub text_at : BarText → ℕ → Bool → List ℕ → Call → ℕ → Markup
+  text_at text lane faulty name call place = label_markup (text_class text)
+      (across scene TEXT_LEFT lane) (down TEXT_BASE (row_of_place scene place)) (room_of scene)
+      (fitted_words (room_of scene) text faulty name call)
 
   -- the texts of a bar: where its call begins, and where it notes and answers, if it does
-  abbrev pub texts : Bar → List ℕ → Call → Markup
-  texts bar name call = both (text_at bar_text.Begin bar.lane name call bar.begins)
-      (both (if_any (text_at bar_text.Note bar.lane name call) bar.note)
-      (if_any (text_at bar_text.Answer bar.lane name call) bar.ends))
+  abbrev pub texts : Bar → Bool → List ℕ → Call → Markup
+  texts bar faulty name call = both (text_at bar_text.Begin bar.lane faulty name call bar.begins)
+      (both (if_any (text_at bar_text.Note bar.lane faulty name call) bar.note)
+      (if_any (text_at bar_text.Answer bar.lane faulty name call) bar.ends))

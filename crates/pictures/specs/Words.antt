@@ -1,10 +1,11 @@
 -- What is said of a call, in few words. A value stands as a JSON text.
 use Rattle.std.specs.Prelude.{ℕ, Bool, true, false, ◌||◌, if◌then◌else◌, List, [], ◌∷◌, ◌++◌}
-use Rattle.std.specs.Prelude.{Option, Some, None, decimal}
+use Rattle.std.specs.Prelude.{Option, Some, None, decimal, length, nat_lt}
 use Rattle.tag.specs.declared.actions.Action.{Action}
 use Rattle.tag.specs.declared.actions.Action.TheVariants.{Read, Write}
 use Rattle.tag.specs.declared.actions.Returned.{Returned}
 use Rattle.tag.specs.declared.actions.Returned.TheVariants.{Value, Written}
+use Rattle.tag.specs.declared.numbers.OpId.{OpId}
 use Rattle.tag.specs.Tags.{Tag}
 use Rattle.recorder.specs.declared.part.Call.{Call}
 use Rattle.recorder.specs.declared.part.Response.{Response}
@@ -12,11 +13,15 @@ use Rattle.sentences.specs.Words.{tag_text, value_text}
 use Rattle.explanations.specs.Sentences.{line_at}
 use Rattle.explanations.specs.declared.hall_rows.HallRows.{HallRows}
 use Rattle.pictures.specs.declared.style.TheConstants.{ANSWER, BLANK, CALL_SIGN, COLON, DONE}
-use Rattle.pictures.specs.declared.style.TheConstants.{NOT_ANSWERED, READS, WRITES}
+use Rattle.pictures.specs.declared.style.TheConstants.{FAULT_SIGN, NOT_ANSWERED, READS, WRITES}
 
 -- words that are left out where there is little room
 abbrev pub unless : Bool → List ℕ → List ℕ
 unless briefly words = if briefly then [] else words
+
+-- the words; or brief ones, where the words have more bytes than the room has letters
+abbrev pub fitted : ℕ → List ℕ → List ℕ → List ℕ
+fitted room words brief = if nat_lt room (length words) then brief else words
 
 -- what a call of that action does
 abbrev pub action_words : Bool → Action → List ℕ
@@ -28,10 +33,18 @@ abbrev pub name_words : List ℕ → List ℕ
 name_words [] = []
 name_words (byte ∷ name) = (byte ∷ name) ++ COLON.now
 
+-- the sign of a call at fault, if it is one
+abbrev pub fault_sign : Bool → List ℕ
+fault_sign faulty = if faulty then FAULT_SIGN.now else []
+
+-- that, and a call's number after these words
+abbrev pub numbered_words : Bool → List ℕ → OpId → List ℕ
+numbered_words faulty before op = fault_sign faulty ++ before ++ decimal op.0
+
 -- a call's number, the name of its key, and what it does
-abbrev pub begin_words : Bool → List ℕ → Call → List ℕ
-begin_words briefly name call = CALL_SIGN.now ++ decimal call.op.0 ++ BLANK.now ++ name_words name
-    ++ action_words briefly call.action
+abbrev pub begin_words : Bool → Bool → List ℕ → Call → List ℕ
+begin_words faulty briefly name call = numbered_words faulty CALL_SIGN.now call.op ++ BLANK.now
+    ++ name_words name ++ action_words briefly call.action
 
 -- what a response answers
 abbrev pub returned_words : Returned → List ℕ

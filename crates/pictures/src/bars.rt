@@ -1,15 +1,16 @@
 //! Bars, one for each call.
 ghost use Rattle.std.specs.Prelude.{◌≡◌, ◌++◌, OnOk};
-ghost use Rattle.markup.specs.Markup.{rendered};
+ghost use Rattle.markup.specs.Markup.{opening_tag, rendered};
+ghost use Rattle.markup.specs.declared.names.Element.TheVariants as tag;
 ghost use Rattle.pictures.specs.Layout.{IsInOrder};
-ghost use Rattle.pictures.specs.Pictures.{bar_markup, sentence};
+ghost use Rattle.pictures.specs.Pictures.{bar_attributes, bar_markup, sentence};
 
 use crate::frames::{append_shape, corner_of};
 use crate::picture::Picture;
-use crate::texts::append_texts;
+use crate::texts::BarTexts;
 use explanations::append_call;
 use labels::{Shape, append_title};
-use markup::{Element, append_closing, open_of_class};
+use markup::{Attribute, AttributeName, Element, append_closing, append_opening};
 use recorder::Call;
 use scenes::Bar;
 use std::alloc::Global;
@@ -38,6 +39,16 @@ fn append_sentence(
     append_title(page, &words)
 }
 
+/// Opens the element of the call's bar.
+fn open_bar(page: &mut Vec<u8>, picture: &Picture<'_>, call: &Call<'_>) -> Result<(), Memory>
+    ensures { OnOk result (page.new.items
+        ≡ page.old.items ++ opening_tag tag.G (bar_attributes picture.now call.now)) }
+{
+    let id = Attribute::Numbered(AttributeName::Id, picture.ids, u64::from(call.op.0));
+    let class = Attribute::Words(AttributeName::Class, picture.class_of(call));
+    append_opening(page, Element::G, &[id, class])
+}
+
 impl Shape for Bars<'_> {
     type Item = Bar;
 
@@ -52,11 +63,16 @@ impl Shape for Bars<'_> {
         let Some(key) = self.picture.key_of(&call) else {
             return Ok(());
         };
-        open_of_class(page, Element::G, self.picture.class_of(&call))?;
+        open_bar(page, self.picture, &call)?;
         append_sentence(self.alloc, page, self.picture, key, &call)?;
         append_shape(page, self.picture.scene, item, corner_of(&call.action))?;
-        let name = self.picture.keys.said_key(key);
-        append_texts(self.alloc, page, self.picture.scene, item, name, &call)?;
+        let texts = BarTexts {
+            alloc: self.alloc,
+            scene: self.picture.scene,
+            name: self.picture.keys.said_key(key),
+            faulty: self.picture.is_faulty(call.op),
+        };
+        texts.append(page, item, &call)?;
         append_closing(page, Element::G)
     }
 }

@@ -5,7 +5,7 @@ ghost use Rattle.pictures.specs.Tables.{cell, content_words, heading};
 ghost use Rattle.pictures.specs.Words.{line_words};
 
 use crate::style::COLUMN;
-use crate::words::{say_action, say_line, say_name, say_response};
+use crate::words::{say_action, say_line, say_name, say_number, say_response};
 use explanations::HallRows;
 use labels::text_of;
 use markup::{
@@ -14,12 +14,14 @@ use markup::{
 use recorder::{ActionRef, Response};
 use sentences::append_number;
 use std::alloc::Global;
-use tag::Memory;
+use tag::{Memory, OpId};
 
 /// What a cell says of a call.
 #[derive(Clone, Copy)]
 pub(crate) enum Content<'a> {
     Number(u64),
+    /// The call of that number, and whether it is at fault.
+    Call(OpId, bool),
     /// What a call of that action does, on the key of that name.
     Does(&'a str, &'a ActionRef<'a>),
     /// What that response answers.
@@ -49,6 +51,7 @@ fn say_content(words: &mut Vec<u8>, content: &Content<'_>) -> Result<(), Memory>
 {
     match *content {
         Content::Number(number) => append_number(words, "", number),
+        Content::Call(op, faulty) => say_number(words, "", op, faulty),
         Content::Does(name, action) => {
             say_name(words, name)?;
             say_action(words, action, false)

@@ -1,25 +1,15 @@
 //! What bars stand on: a column for each lane, and a row for each tick.
-ghost use Rattle.std.specs.Prelude.{◌≡◌, ◌++◌, OnOk};
+ghost use Rattle.std.specs.Prelude.{◌≡◌, ◌<◌, ◌++◌, length, OnOk};
 ghost use Rattle.markup.specs.Markup.{rendered};
 ghost use Rattle.pictures.specs.Layout.{IsInOrder};
-ghost use Rattle.pictures.specs.Ground.{client_name, lane_markup, middle_of, tick_line, tick_markup};
+ghost use Rattle.pictures.specs.Ground.{gap_markup, lane_markup, level_line, middle_of, tick_markup};
 
-use crate::layout::{across, column_width, down, room_of, row_of_place, rows_of};
-use crate::sizes::{COLUMN_LEFT, FLOOR, LINE_LETTERS, LINE_RIGHT, MIDDLE, ROW_TOP, TEXT_BASE};
-use crate::style::{CLIENT, CLIENT_WORD, LANE, LINE, LINE_WORD, TICK};
-use explanations::HallRows;
-use labels::{IndexedShape, Shape, Spot, Way, append_line, append_numbered};
-use scenes::Scene;
-use std::alloc::Global;
+use crate::layout::{across, column_width, down, row_of_gap, row_of_place, rows_of};
+use crate::sizes::{COLUMN_LEFT, FLOOR, MIDDLE, ROW_TOP};
+use crate::style::{GAP, LANE, TICK};
+use labels::{IndexedShape, Shape, Way, append_line};
+use scenes::{Gap, Scene};
 use tag::{ClientId, Memory};
-
-/// The names of the clients of a scene's lanes, at that height.
-#[derive(Clone, Copy)]
-pub(crate) struct Names<'a> {
-    pub(crate) alloc: Global,
-    pub(crate) scene: &'a Scene,
-    pub(crate) y: u64,
-}
 
 /// The lines in the middle of a scene's lanes.
 #[derive(Clone, Copy)]
@@ -27,33 +17,23 @@ pub(crate) struct Guides<'a> {
     pub(crate) scene: &'a Scene,
 }
 
-/// The ticks of a scene: a line in the row of each, and the line of the history file.
+/// The ticks of a scene: a line in the row of each.
 #[derive(Clone, Copy)]
 pub(crate) struct Ticks<'a> {
-    pub(crate) alloc: Global,
     pub(crate) scene: &'a Scene,
-    pub(crate) hall: &'a HallRows<'a>,
+}
+
+/// The gaps of a scene: a line in the row of each.
+#[derive(Clone, Copy)]
+pub(crate) struct Gaps<'a> {
+    pub(crate) scene: &'a Scene,
 }
 
 /// The middle of the lane's column.
-fn middle_of(scene: &Scene, lane: usize) -> u64
+pub(crate) fn middle_of(scene: &Scene, lane: usize) -> u64
     ensures { result ≡ middle_of scene.now lane }
 {
     across(scene, COLUMN_LEFT + column_width(scene) / 2, lane)
-}
-
-impl IndexedShape for Names<'_> {
-    type Item = ClientId;
-
-    ghost can_append = { λ names index. Unit {0} };
-
-    ghost shape = { λ names. client_name names.scene.now names.y };
-
-    fn append(&self, page: &mut Vec<u8>, index: usize, item: &ClientId) -> Result<(), Memory> {
-        let x = middle_of(self.scene, index);
-        let spot = Spot::new(CLIENT, x, self.y, room_of(self.scene));
-        append_numbered(self.alloc, page, &spot, CLIENT_WORD, u64::from(item.get()))
-    }
 }
 
 impl IndexedShape for Guides<'_> {
@@ -70,12 +50,13 @@ impl IndexedShape for Guides<'_> {
     }
 }
 
-/// Adds the line at that height.
-fn append_tick_line(page: &mut Vec<u8>, scene: &Scene, y: u64) -> Result<(), Memory>
-    ensures { OnOk result (page.new.items ≡ page.old.items ++ rendered (tick_line scene.now y)) }
+/// Adds the line of that class over all columns, at that height.
+fn append_level(page: &mut Vec<u8>, scene: &Scene, class: &str, y: u64) -> Result<(), Memory>
+    ensures { OnOk result
+        (page.new.items ≡ page.old.items ++ rendered (level_line scene.now class.now y)) }
 {
     let right = across(scene, COLUMN_LEFT, scene.lanes.len());
-    append_line(page, TICK, Way::level(y, COLUMN_LEFT, right))
+    append_line(page, class, Way::level(y, COLUMN_LEFT, right))
 }
 
 impl Shape for Ticks<'_> {
@@ -83,12 +64,24 @@ impl Shape for Ticks<'_> {
 
     ghost can_append = { λ ticks. IsInOrder ticks.scene.now };
 
-    ghost shape = { λ ticks. tick_markup ticks.scene.now ticks.hall.now };
+    ghost shape = { λ ticks. tick_markup ticks.scene.now };
 
     fn append(&self, page: &mut Vec<u8>, item: &usize) -> Result<(), Memory> {
         let row = row_of_place(self.scene, *item);
-        append_tick_line(page, self.scene, down(MIDDLE, row))?;
-        let spot = Spot::new(LINE, LINE_RIGHT, down(TEXT_BASE, row), LINE_LETTERS);
-        append_numbered(self.alloc, page, &spot, LINE_WORD, self.hall.line_at(*item))
+        append_level(page, self.scene, TICK, down(MIDDLE, row))
+    }
+}
+
+impl IndexedShape for Gaps<'_> {
+    type Item = Gap;
+
+    ghost can_append = { λ gaps index. IsInOrder gaps.scene.now
+        × (index < length gaps.scene.now.gaps.items) };
+
+    ghost shape = { λ gaps. gap_markup gaps.scene.now };
+
+    fn append(&self, page: &mut Vec<u8>, index: usize, item: &Gap) -> Result<(), Memory> {
+        let row = row_of_gap(self.scene, index, item.place);
+        append_level(page, self.scene, GAP, down(MIDDLE, row))
     }
 }

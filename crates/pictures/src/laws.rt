@@ -1,5 +1,5 @@
 //! Laws of pictures, each the contract of a function that does nothing.
-ghost use Rattle.std.specs.Prelude.{ℕ, ◌≡◌, ◌<◌, true, Some, slice_get};
+ghost use Rattle.std.specs.Prelude.{ℕ, ◌≡◌, ◌<◌, ◌≤◌, ◌^◌, true, Some, length, slice_get};
 ghost use Rattle.labels.specs.Places.{farthest};
 ghost use Rattle.labels.specs.Texts.{all_differ, none_is_empty};
 ghost use Rattle.scenes.specs.declared.scene.Bar.{Bar};
@@ -10,8 +10,10 @@ ghost use Rattle.pictures.specs.declared.sizes.TheConstants.{DOT_RADIUS, ROW};
 ghost use Rattle.pictures.specs.Dots.{dot_x, dot_y};
 ghost use Rattle.pictures.specs.Frames.{frame_of};
 ghost use Rattle.pictures.specs.Layout.{HasRowsInOrder, IsInOrder, across, column_width, down};
+ghost use Rattle.pictures.specs.Layout.{room_of};
 ghost use Rattle.pictures.specs.Readable.{HasCircle, HasTexts, IsWithinReach, call_phrases};
 ghost use Rattle.pictures.specs.Readable.{class_names, headings, legend_words, other_words};
+ghost use Rattle.pictures.specs.Strips.{client_words};
 
 /// Each tick and each dot of a picture has a row of its own, in the order of their places: a dot
 /// stands below the tick of its place, and the dots of one place stand in their order.
@@ -52,6 +54,13 @@ pub fn a_dot_stands_on_its_bar()
 pub fn texts_keep_to_their_bar()
     ensures { (scene : Scene) (bar : Bar) → IsWithinReach (frame_of scene bar)
         → HasTexts scene bar }
+{}
+
+/// A client is named whole, by its number alone if there is no room for more: its name has no more
+/// letters than its column has room for.
+pub fn a_client_is_named_whole()
+    ensures { (scene : Scene) (client : ℕ) → client < 2 ^ 32
+        → length (client_words scene client) ≤ room_of scene }
 {}
 
 /// No two classes have one name, and so it is with what a legend and a table say; and nothing is

@@ -3,12 +3,12 @@ ghost use Rattle.std.specs.Prelude.{◌≡◌, ◌<◌, ◌≤◌, length, map};
 ghost use Rattle.std.specs.List.Sorted.{IsNonDecreasing, IsStrictlyIncreasing};
 ghost use Rattle.labels.specs.Places.{IsNear};
 ghost use Rattle.pictures.specs.Layout.{IsInOrder, across, column_width, dots_before, down};
-ghost use Rattle.pictures.specs.Layout.{is_narrow, room_of, row_of_dot, row_of_place};
+ghost use Rattle.pictures.specs.Layout.{gaps_up_to, room_of, row_of_dot, row_of_gap, row_of_place};
 ghost use Rattle.pictures.specs.Layout.{rows_of, ticks_before, ticks_up_to};
 
-use crate::sizes::{COLUMNS, LETTER, MARGINS, NARROWEST, ROOMY, ROW, WIDEST};
+use crate::sizes::{COLUMNS, LETTER, MARGINS, NARROWEST, ROW, WIDEST};
 use labels::pixels;
-use scenes::{Dot, Scene};
+use scenes::{Dot, Gap, Scene};
 
 /// So far down in that row, from its first one.
 pub(crate) fn down(start: u64, row: usize) -> u64
@@ -32,13 +32,6 @@ pub(crate) fn across(scene: &Scene, start: u64, lane: usize) -> u64
     ensures near { IsNear result }
 {
     pixels(start, lane, column_width(scene))
-}
-
-/// Whether columns are narrow.
-pub(crate) fn is_narrow(scene: &Scene) -> bool
-    ensures { result ≡ is_narrow scene.now }
-{
-    column_width(scene) < ROOMY
 }
 
 /// How many letters a column holds.
@@ -75,12 +68,23 @@ fn dots_before(dots: &[Dot], place: usize) -> usize
     dots.partition_point(|dot| dot.place < place)
 }
 
+/// How many of the gaps don't begin after the place.
+fn gaps_up_to(gaps: &[Gap], place: usize) -> usize
+    requires { IsStrictlyIncreasing (map (λ gap. gap.place) gaps.now) }
+    ensures count { result ≡ gaps_up_to gaps.now place }
+    ensures bound { result ≤ length gaps.now }
+{
+    gaps.partition_point(|gap| gap.place <= place)
+}
+
 /// The row of that place.
 pub(crate) fn row_of_place(scene: &Scene, place: usize) -> usize
     requires { IsInOrder scene.now }
     ensures { result ≡ row_of_place scene.now place }
 {
-    ticks_before(&scene.ticks, place) + dots_before(&scene.dots, place)
+    ticks_before(&scene.ticks, place)
+        + dots_before(&scene.dots, place)
+        + gaps_up_to(&scene.gaps, place)
 }
 
 /// The row of the dot of that index, at its place.
@@ -89,12 +93,21 @@ pub(crate) fn row_of_dot(scene: &Scene, index: usize, place: usize) -> usize
     requires index { index < length scene.now.dots.items }
     ensures { result ≡ row_of_dot scene.now index place }
 {
-    ticks_up_to(&scene.ticks, place) + index
+    ticks_up_to(&scene.ticks, place) + index + gaps_up_to(&scene.gaps, place)
+}
+
+/// The row of the gap of that index, at its place.
+pub(crate) fn row_of_gap(scene: &Scene, index: usize, place: usize) -> usize
+    requires order { IsInOrder scene.now }
+    requires index { index < length scene.now.gaps.items }
+    ensures { result ≡ row_of_gap scene.now index place }
+{
+    ticks_before(&scene.ticks, place) + dots_before(&scene.dots, place) + index
 }
 
 /// How many rows there are.
 pub(crate) fn rows_of(scene: &Scene) -> usize
     ensures { result ≡ rows_of scene.now }
 {
-    scene.ticks.len() + scene.dots.len()
+    scene.ticks.as_slice().len() + scene.dots.as_slice().len() + scene.gaps.as_slice().len()
 }

@@ -4,15 +4,16 @@ ghost use Rattle.markup.specs.Markup.{opening_tag, rendered};
 ghost use Rattle.markup.specs.declared.names.Element.TheVariants as tag;
 ghost use Rattle.pictures.specs.Layout.{IsInOrder};
 ghost use Rattle.pictures.specs.Pictures.{call_of, calls_markup, class_of, foot, ground, is_faulty};
-ghost use Rattle.pictures.specs.Pictures.{own_key, picture_markup, picture_title, svg_attributes};
+ghost use Rattle.pictures.specs.Pictures.{own_key, picture_markup, picture_title, svg, svg_attributes};
 
 use crate::bars::Bars;
 use crate::dots::Dots;
-use crate::ground::{Guides, Names, Ticks};
+use crate::ground::{Gaps, Guides, Ticks};
 use crate::keys::CallKeys;
 use crate::layout::{across, down, rows_of};
 use crate::path::append_path;
-use crate::sizes::{BOTTOM, FOOT_BASE, LONG, NAMES_BASE, RIGHT};
+use crate::sizes::{BOTTOM, FOOT_BASE, LONG, RIGHT};
+use crate::strips::{Names, append_lines, append_names};
 use crate::style::{FAULTY_READ, FAULTY_WRITE, PICTURE, READ, TITLE, WRITE};
 use certificate_check::find_call;
 use explanations::HallRows;
@@ -34,6 +35,8 @@ pub struct Picture<'a> {
     pub scene: &'a Scene,
     /// The calls that show why a key is refused.
     pub faulty: &'a [OpId],
+    /// What the ids of bars begin with; a call's number follows.
+    pub ids: &'a str,
 }
 
 impl<'a> Picture<'a> {
@@ -97,17 +100,15 @@ fn append_foot(alloc: Global, page: &mut Vec<u8>, scene: &Scene) -> Result<(), M
     }
 }
 
-/// Adds the names of the clients, the lines of the lanes, and the ticks.
-fn append_ground(alloc: Global, page: &mut Vec<u8>, picture: &Picture<'_>) -> Result<(), Memory>
-    requires { IsInOrder picture.now.scene.now }
-    ensures { OnOk result (page.new.items ≡ page.old.items ++ rendered (ground picture.now)) }
+/// Adds the lines of the lanes, the ticks and the gaps, and below them, if they are many, the names.
+fn append_ground(alloc: Global, page: &mut Vec<u8>, scene: &Scene) -> Result<(), Memory>
+    requires { IsInOrder scene.now }
+    ensures { OnOk result (page.new.items ≡ page.old.items ++ rendered (ground scene.now)) }
 {
-    let (scene, hall) = (picture.scene, &picture.hall);
-    let y = NAMES_BASE;
-    append_each_indexed(page, &Names { alloc, scene, y }, &scene.lanes)?;
     append_foot(alloc, page, scene)?;
     append_each_indexed(page, &Guides { scene }, &scene.lanes)?;
-    append_each(page, &Ticks { alloc, scene, hall }, &scene.ticks)
+    append_each(page, &Ticks { scene }, &scene.ticks)?;
+    append_each_indexed(page, &Gaps { scene }, &scene.gaps)
 }
 
 /// Adds the line that joins the dots, the bars above it, and the dots above these.
@@ -131,8 +132,21 @@ fn open_svg(page: &mut Vec<u8>, scene: &Scene) -> Result<(), Memory>
     open_image(page, width, down(BOTTOM, rows_of(scene)))
 }
 
-/// Adds the picture: each bar with its call's sentence as its title, each dot and each tick. It
-/// scrolls where the window is too narrow.
+/// Adds the picture's element: its title, the ground, and the calls.
+fn append_svg(alloc: Global, page: &mut Vec<u8>, picture: &Picture<'_>) -> Result<(), Memory>
+    requires { IsInOrder picture.now.scene.now }
+    ensures { OnOk result (page.new.items ≡ page.old.items ++ rendered (svg picture.now)) }
+{
+    open_svg(page, picture.scene)?;
+    append_name(page, picture.keys)?;
+    append_ground(alloc, page, picture.scene)?;
+    append_calls(alloc, page, picture)?;
+    append_closing(page, Element::Svg)
+}
+
+/// Adds the picture: each bar with its call's sentence as its title, each dot, each tick, and a mark
+/// where calls are left out. It lies in a box of its own that scrolls, in which the clients' names and
+/// the lines stay in sight.
 ///
 /// If it fails, a beginning of that may have been added; so it is with each function here.
 pub fn append_picture(
@@ -145,10 +159,8 @@ pub fn append_picture(
         (page.new.items ≡ page.old.items ++ rendered (picture_markup picture.now)) }
 {
     open_of_class(page, Element::Div, PICTURE)?;
-    open_svg(page, picture.scene)?;
-    append_name(page, picture.keys)?;
-    append_ground(alloc, page, picture)?;
-    append_calls(alloc, page, picture)?;
-    append_closing(page, Element::Svg)?;
+    append_names(alloc, page, picture.scene)?;
+    append_lines(alloc, page, picture.scene, &picture.hall)?;
+    append_svg(alloc, page, picture)?;
     append_closing(page, Element::Div)
 }

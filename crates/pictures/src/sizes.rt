@@ -12,9 +12,6 @@ pub(crate) const WIDEST: u64 = 120;
 /// The least that a column is wide.
 pub(crate) const NARROWEST: u64 = 68;
 
-/// In a narrower column less is said.
-pub(crate) const ROOMY: u64 = 100;
-
 /// What a column leaves free beside a text.
 pub(crate) const MARGINS: u64 = 8;
 
@@ -25,31 +22,31 @@ pub(crate) const LETTER: u64 = 6;
 pub(crate) const LONG: usize = 40;
 
 /// Where the first column begins.
-pub(crate) const COLUMN_LEFT: u64 = 76;
+pub(crate) const COLUMN_LEFT: u64 = 96;
 
 /// Where a bar begins in the first column.
-pub(crate) const BAR_LEFT: u64 = 78;
+pub(crate) const BAR_LEFT: u64 = 98;
 
 /// What a bar leaves free of its column.
 pub(crate) const BAR_MARGINS: u64 = 4;
 
 /// Where a bar's texts begin in the first column.
-pub(crate) const TEXT_LEFT: u64 = 81;
+pub(crate) const TEXT_LEFT: u64 = 101;
 
 /// Where the middle of a dot is in the first column.
-pub(crate) const DOT_LEFT: u64 = 87;
+pub(crate) const DOT_LEFT: u64 = 107;
 
 /// Where a dot's number begins in the first column.
-pub(crate) const NUMBER_LEFT: u64 = 95;
+pub(crate) const NUMBER_LEFT: u64 = 115;
 
 /// Where the line of a row, which is said at the left, ends.
-pub(crate) const LINE_RIGHT: u64 = 72;
+pub(crate) const LINE_RIGHT: u64 = 92;
 
 /// The letters of that line.
-pub(crate) const LINE_LETTERS: u64 = 12;
+pub(crate) const LINE_LETTERS: u64 = 15;
 
 /// In the column after the last: the end of the picture.
-pub(crate) const RIGHT: u64 = 80;
+pub(crate) const RIGHT: u64 = 100;
 
 /// Where the first row begins.
 pub(crate) const ROW_TOP: u64 = 26;

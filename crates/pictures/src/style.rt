@@ -4,6 +4,10 @@
 
 pub(crate) const PICTURE: &str = "picture";
 
+pub(crate) const NAMES: &str = "names";
+
+pub(crate) const LINES: &str = "lines";
+
 pub(crate) const LANE: &str = "lane";
 
 pub(crate) const CLIENT: &str = "client";
@@ -11,6 +15,10 @@ pub(crate) const CLIENT: &str = "client";
 pub(crate) const TICK: &str = "tick";
 
 pub(crate) const LINE: &str = "line";
+
+pub(crate) const GAP: &str = "gap";
+
+pub(crate) const OMITTED: &str = "omitted";
 
 pub(crate) const PATH: &str = "path";
 
@@ -49,6 +57,14 @@ pub(crate) const CLIENT_WORD: &str = "client ";
 pub(crate) const LINE_WORD: &str = "line ";
 
 pub(crate) const CALL_SIGN: &str = "#";
+
+pub(crate) const FAULT_SIGN: &str = "\u{2717} ";
+
+pub(crate) const GAP_SIGN: &str = "\u{22ee} ";
+
+pub(crate) const GAP_CALL: &str = " call";
+
+pub(crate) const GAP_CALLS: &str = " calls";
 
 pub(crate) const BLANK: &str = " ";
 
@@ -90,6 +106,10 @@ pub(crate) const WRITE_KEY: &str = "#0 writes";
 
 pub(crate) const READ_KEY: &str = "#1 reads";
 
-pub(crate) const OPEN_KEY: &str = "not answered";
+pub(crate) const OPEN_KEY: &str = "not answered: no lower edge";
 
-pub(crate) const FAULTY_KEY: &str = "at fault";
+pub(crate) const FAULTY_KEY: &str = "\u{2717} at fault";
+
+// ---- values of attributes
+
+pub(crate) const HIDDEN: &str = "true";

@@ -56,17 +56,18 @@ fn append_headings(page: &mut Vec<u8>) -> Result<(), Memory>
     append_closing(page, Element::Tr)
 }
 
-/// Adds the cells that say what the call does, with that name of its key.
+/// Adds the cells that say whether the call is at fault, and what it does, with that name of its key.
 fn append_call_cells(
     alloc: Global,
     page: &mut Vec<u8>,
+    faulty: bool,
     name: &str,
     call: &Call<'_>,
 ) -> Result<(), Memory>
     ensures { OnOk result
-        (page.new.items ≡ page.old.items ++ rendered (call_cells name.now call.now)) }
+        (page.new.items ≡ page.old.items ++ rendered (call_cells faulty name.now call.now)) }
 {
-    append_cell(alloc, page, &Content::Number(u64::from(call.op.0)))?;
+    append_cell(alloc, page, &Content::Call(call.op, faulty))?;
     append_cell(alloc, page, &Content::Number(u64::from(call.client.get())))?;
     append_cell(alloc, page, &Content::Does(name, &call.action))?;
     append_cell(alloc, page, &Content::Answers(&call.response))
@@ -106,7 +107,9 @@ impl Shape for Rows<'_> {
             return Ok(());
         };
         open_of_class(page, Element::Tr, self.picture.class_of(&call))?;
-        append_call_cells(self.alloc, page, self.picture.keys.said_key(key), &call)?;
+        let faulty = self.picture.is_faulty(call.op);
+        let name = self.picture.keys.said_key(key);
+        append_call_cells(self.alloc, page, faulty, name, &call)?;
         append_line_cells(self.alloc, page, &self.picture.hall, item, &call)?;
         append_closing(page, Element::Tr)
     }

@@ -1,10 +1,11 @@
 //! What stands in a bar: what its call does, its note, and what it answers.
-ghost use Rattle.std.specs.Prelude.{◌≡◌, ◌++◌, OnOk};
+ghost use Rattle.std.specs.Prelude.{◌≡◌, ◌++◌, IfOk, OnOk};
 ghost use Rattle.markup.specs.Markup.{rendered};
 ghost use Rattle.pictures.specs.Layout.{IsInOrder};
-ghost use Rattle.pictures.specs.Texts.{if_any, text_at, text_class, text_words, texts};
+ghost use Rattle.pictures.specs.Texts.{fitted_words, if_any, text_at, text_class, text_words};
+ghost use Rattle.pictures.specs.Texts.{texts};
 
-use crate::layout::{across, down, is_narrow, room_of, row_of_place};
+use crate::layout::{across, down, room_of, row_of_place};
 use crate::sizes::{TEXT_BASE, TEXT_LEFT};
 use crate::style::{ANSWERS, DOES, NOTED, NOTES};
 use crate::words::{say_begin, say_end, say_note, say_unless};
@@ -40,15 +41,16 @@ fn text_class(text: BarText) -> &'static str
 fn say_text(
     words: &mut Vec<u8>,
     text: BarText,
+    faulty: bool,
+    briefly: bool,
     name: &str,
     call: &Call<'_>,
-    briefly: bool,
 ) -> Result<(), Memory>
     ensures { OnOk result
-        (words.new.items ≡ words.old.items ++ text_words text briefly name.now call.now) }
+        (words.new.items ≡ words.old.items ++ text_words text faulty briefly name.now call.now) }
 {
     match text {
-        BarText::Begin => say_begin(words, name, call, briefly),
+        BarText::Begin => say_begin(words, name, call, faulty, briefly),
         BarText::Note => {
             say_unless(words, briefly, NOTES)?;
             say_note(words, call.note)
@@ -57,66 +59,78 @@ fn say_text(
     }
 }
 
-/// Adds such a text of the call in the row of the place, if there is one.
-fn append_text(
+/// What such a text says of the call, briefly if there is no room for it.
+fn fitted_words(
     alloc: Global,
-    page: &mut Vec<u8>,
-    scene: &Scene,
-    lane: usize,
+    room: u64,
+    text: BarText,
+    faulty: bool,
     name: &str,
     call: &Call<'_>,
-    text: BarText,
-    place: Option<usize>,
-) -> Result<(), Memory>
-    requires { IsInOrder scene.now }
-    ensures { OnOk result (page.new.items ≡ page.old.items
-        ++ rendered (if_any (text_at scene.now text lane name.now call.now) place)) }
+) -> Result<Vec<u8>, Memory>
+    ensures { IfOk result
+        (λ words. words.items ≡ fitted_words room text faulty name.now call.now) }
 {
-    let Some(place) = place else {
-        return Ok(());
-    };
-    let x = across(scene, TEXT_LEFT, lane);
-    let y = down(TEXT_BASE, row_of_place(scene, place));
-    let spot = Spot::new(text_class(text), x, y, room_of(scene));
     let mut words = Vec::new(alloc);
-    say_text(&mut words, text, name, call, is_narrow(scene))?;
-    append_label(alloc, page, &spot, &words)
+    say_text(&mut words, text, faulty, false, name, call)?;
+    if words.len() as u64 <= room {
+        return Ok(words);
+    }
+    let mut brief = Vec::new(alloc);
+    say_text(&mut brief, text, faulty, true, name, call)?;
+    Ok(brief)
 }
 
-/// Adds the texts of the call's bar, with that name of its key.
-pub(crate) fn append_texts(
-    alloc: Global,
-    page: &mut Vec<u8>,
-    scene: &Scene,
-    bar: &Bar,
-    name: &str,
-    call: &Call<'_>,
-) -> Result<(), Memory>
-    requires { IsInOrder scene.now }
-    ensures { OnOk result (page.new.items
-        ≡ page.old.items ++ rendered (texts scene.now bar.now name.now call.now)) }
-{
-    let lane = bar.lane;
-    let begins = Some(bar.begins);
-    append_text(alloc, page, scene, lane, name, call, BarText::Begin, begins)?;
-    append_text(
-        alloc,
-        page,
-        scene,
-        lane,
-        name,
-        call,
-        BarText::Note,
-        bar.note,
-    )?;
-    append_text(
-        alloc,
-        page,
-        scene,
-        lane,
-        name,
-        call,
-        BarText::Answer,
-        bar.ends,
-    )
+/// What the texts of a bar say: those of which call, and with which name of its key.
+#[derive(Clone, Copy)]
+pub(crate) struct BarTexts<'a> {
+    pub(crate) alloc: Global,
+    pub(crate) scene: &'a Scene,
+    pub(crate) name: &'a str,
+    /// Whether the call is at fault.
+    pub(crate) faulty: bool,
+}
+
+impl BarTexts<'_> {
+    /// Adds such a text of the call in the row of the place, if there is one.
+    fn append_text(
+        &self,
+        page: &mut Vec<u8>,
+        lane: usize,
+        call: &Call<'_>,
+        text: BarText,
+        place: Option<usize>,
+    ) -> Result<(), Memory>
+        requires { IsInOrder self.now.scene.now }
+        ensures { OnOk result (page.new.items ≡ page.old.items
+            ++ rendered (if_any (text_at self.now.scene.now text lane self.now.faulty
+            self.now.name.now call.now) place)) }
+    {
+        let Some(place) = place else {
+            return Ok(());
+        };
+        let (scene, alloc) = (self.scene, self.alloc);
+        let x = across(scene, TEXT_LEFT, lane);
+        let y = down(TEXT_BASE, row_of_place(scene, place));
+        let room = room_of(scene);
+        let spot = Spot::new(text_class(text), x, y, room);
+        let words = fitted_words(alloc, room, text, self.faulty, self.name, call)?;
+        append_label(alloc, page, &spot, &words)
+    }
+
+    /// Adds the texts of the call's bar.
+    pub(crate) fn append(
+        &self,
+        page: &mut Vec<u8>,
+        bar: &Bar,
+        call: &Call<'_>,
+    ) -> Result<(), Memory>
+        requires { IsInOrder self.now.scene.now }
+        ensures { OnOk result (page.new.items ≡ page.old.items ++ rendered
+            (texts self.now.scene.now bar.now self.now.faulty self.now.name.now call.now)) }
+    {
+        self.append_text(page, bar.lane, call, BarText::Begin, Some(bar.begins))?;
+        self.append_text(page, bar.lane, call, BarText::Note, bar.note)?;
+        self.append_text(page, bar.lane, call, BarText::Answer, bar.ends)
+    }
 }

@@ -1,14 +1,16 @@
 //! What is said of a call, in few words.
 ghost use Rattle.std.specs.Prelude.{◌≡◌, ◌++◌, OnOk};
-ghost use Rattle.pictures.specs.Words.{action_words, begin_words, end_words, is_written};
-ghost use Rattle.pictures.specs.Words.{line_words, name_words, note_words, response_words};
-ghost use Rattle.pictures.specs.Words.{returned_words, unless};
+ghost use Rattle.pictures.specs.Words.{action_words, begin_words, end_words, fault_sign};
+ghost use Rattle.pictures.specs.Words.{is_written, line_words, name_words, note_words};
+ghost use Rattle.pictures.specs.Words.{numbered_words, response_words, returned_words, unless};
 
-use crate::style::{ANSWER, BLANK, CALL_SIGN, COLON, DONE, NOT_ANSWERED, READS, WRITES};
+use crate::style::{
+    ANSWER, BLANK, CALL_SIGN, COLON, DONE, FAULT_SIGN, NOT_ANSWERED, READS, WRITES,
+};
 use explanations::{HallRows, append_value};
 use recorder::{ActionRef, Call, Response, ReturnedRef};
 use sentences::{append, append_number, append_tag};
-use tag::{Memory, Tag};
+use tag::{Memory, OpId, Tag};
 
 /// Adds the words where there is room for them.
 pub(crate) fn say_unless(words: &mut Vec<u8>, briefly: bool, more: &str) -> Result<(), Memory>
@@ -45,17 +47,43 @@ pub(crate) fn say_name(words: &mut Vec<u8>, name: &str) -> Result<(), Memory>
     append(words, COLON)
 }
 
+/// Adds the sign of a call at fault, if it is one.
+fn say_fault(words: &mut Vec<u8>, faulty: bool) -> Result<(), Memory>
+    ensures { OnOk result (words.new.items ≡ words.old.items ++ fault_sign faulty) }
+{
+    if faulty {
+        append(words, FAULT_SIGN)
+    } else {
+        Ok(())
+    }
+}
+
+/// Adds the sign of a call at fault, if it is one, and the call's number after these words.
+pub(crate) fn say_number(
+    words: &mut Vec<u8>,
+    before: &str,
+    op: OpId,
+    faulty: bool,
+) -> Result<(), Memory>
+    ensures { OnOk result
+        (words.new.items ≡ words.old.items ++ numbered_words faulty before.now op) }
+{
+    say_fault(words, faulty)?;
+    append_number(words, before, u64::from(op.0))
+}
+
 /// Adds the call's number, the name of its key, and what it does.
 pub(crate) fn say_begin(
     words: &mut Vec<u8>,
     name: &str,
     call: &Call<'_>,
+    faulty: bool,
     briefly: bool,
 ) -> Result<(), Memory>
     ensures { OnOk result
-        (words.new.items ≡ words.old.items ++ begin_words briefly name.now call.now) }
+        (words.new.items ≡ words.old.items ++ begin_words faulty briefly name.now call.now) }
 {
-    append_number(words, CALL_SIGN, u64::from(call.op.0))?;
+    say_number(words, CALL_SIGN, call.op, faulty)?;
     append(words, BLANK)?;
     say_name(words, name)?;
     say_action(words, &call.action, briefly)

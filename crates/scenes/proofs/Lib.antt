@@ -4,3 +4,4 @@ pub mod ShownCalls
 pub mod OrderDots
 pub mod Around
 pub mod Overlaps
+pub mod LeftOut

@@ -1,3 +1,4 @@
+pub mod Gaps
 pub mod Scenes
 pub mod Windows
 pub mod Overlaps

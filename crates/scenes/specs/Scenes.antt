@@ -12,6 +12,7 @@ use Rattle.reasons.specs.Notes.{note_place}
 use Rattle.scenes.specs.declared.scene.Bar.{Bar}
 use Rattle.scenes.specs.declared.scene.Dot.{Dot}
 use Rattle.scenes.specs.declared.scene.Scene.{Scene}
+use Rattle.scenes.specs.Gaps.{AreGaps}
 
 -- the list has just the numbers with the property, each once, in rising order
 pub record IsRisingListOf (P : ℕ → Type 0) (list : List ℕ) : Type 0 where
@@ -68,10 +69,11 @@ module _ (part : List Call) (shown : List ℕ) where
       × IsBarOf rows lanes call bar) shown bars
 
   -- the scene of the shown calls and of an order with its points: their clients as lanes, their
-  -- bars, the places of the bars as ticks, and the dots
+  -- bars, the places of the bars as ticks, the dots, and the calls that aren't shown
   pub record IsSceneOf (rows : List Row) (order : List OpId) (points : List ℕ) (scene : Scene)
       : Type 0 where
     pub lanes : IsRisingListOf HasCallOf scene.lanes.items
     pub bars : AreBarsOf rows scene.lanes.items scene.bars.items
     pub ticks : IsRisingListOf (HasPlace scene.bars.items) scene.ticks.items
     pub dots : AreDotsOf order points scene.bars.items scene.dots.items
+    pub gaps : AreGaps part shown scene.gaps.items

@@ -1,5 +1,6 @@
 //! Laws of scenes, each the contract of a function that does nothing.
-ghost use Rattle.std.specs.Prelude.{ℕ, ◌≡◌, List, Some, Contains, map, slice_get};
+ghost use Rattle.std.specs.Prelude.{ℕ, ◌≡◌, ◌+◌, List, Some, Contains, length, map, slice_get};
+ghost use Rattle.std.specs.List.{sum_by};
 ghost use Rattle.std.specs.List.Sorted.{IsNonDecreasing};
 ghost use Rattle.tag.specs.declared.numbers.OpId.{OpId};
 ghost use Rattle.recorder.specs.declared.row.Row.{Row};
@@ -7,7 +8,7 @@ ghost use Rattle.recorder.specs.declared.part.Call.{Call};
 ghost use Rattle.scenes.specs.declared.scene.Bar.{Bar};
 ghost use Rattle.scenes.specs.declared.scene.Dot.{Dot};
 ghost use Rattle.scenes.specs.declared.scene.Scene.{Scene};
-ghost use Rattle.scenes.specs.Scenes.{IsSceneOf, IsPlaceIn};
+ghost use Rattle.scenes.specs.Scenes.{IsSceneOf, IsPlaceIn, IsSelection};
 ghost use Rattle.linearization_points.specs.Points.{ArePoints};
 
 /// In the scene of an order with its linearization points, the dot of a bar lies within the bar.
@@ -24,4 +25,12 @@ pub fn the_dots_of_a_scene_do_not_fall()
         (points : List ℕ) (scene : Scene) → ArePoints part order points
         → IsSceneOf part shown rows order points scene
         → IsNonDecreasing (map (λ dot. dot.place) scene.dots.items) }
+{}
+
+/// The calls that a scene shows and those that its gaps say are left out are all calls of its part.
+pub fn shown_calls_and_gaps_are_all()
+    ensures { (rows : List Row) (part : List Call) (shown : List ℕ) (order : List OpId)
+        (points : List ℕ) (scene : Scene) → IsSelection part shown
+        → IsSceneOf part shown rows order points scene
+        → length shown + sum_by (λ gap. gap.calls) scene.gaps.items ≡ length part }
 {}

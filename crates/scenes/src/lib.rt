@@ -1,12 +1,14 @@
 //! What a picture of one key's calls shows, as data: lanes, bars, ticks and linearization points.
 //!
 //! A scene has a lane for each client, a bar for each shown call and a dot for each of them that an
-//! order lists, so it grows with the shown calls alone; its dots come from the order in one pass,
+//! order lists, and says of each run of calls that aren't shown how many they are. So it grows with the
+//! shown calls alone; its dots come from the order in one pass,
 //! in `n log n` steps. How many calls are under way at once is found as fast.
 #![tactic(auto)]
 
 mod bars;
 mod dots;
+mod gaps;
 mod lanes;
 pub mod laws;
 mod overlap;
@@ -14,6 +16,7 @@ mod scene;
 mod ticks;
 mod windows;
 
+pub use gaps::Gap;
 pub use overlap::most_at_once;
 pub use scene::{Bar, Dot, Scene, scene_of};
 pub use windows::{Window, shown_calls, window_around};

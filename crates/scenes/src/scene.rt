@@ -4,6 +4,7 @@ ghost use Rattle.scenes.specs.Scenes.{IsSceneOf, IsSelection};
 
 use crate::bars::bars_of;
 use crate::dots::dots_of;
+use crate::gaps::{Gap, gaps_of};
 use crate::lanes::lanes_of;
 use crate::ticks::ticks_of;
 use recorder::{History, Part};
@@ -46,6 +47,8 @@ pub struct Scene {
     pub ticks: Vec<usize>,
     /// The points of the calls that the order lists, in the order's order.
     pub dots: Vec<Dot>,
+    /// The calls that aren't shown, run by run, in rising order.
+    pub gaps: Vec<Gap>,
 }
 
 /// The scene of the part's calls at the shown indexes, which the history records, and of an order with
@@ -71,10 +74,12 @@ pub fn scene_of(
     let bars = bars_of(alloc, history, part, shown, &lanes)?;
     let ticks = ticks_of(alloc, &bars)?;
     let dots = dots_of(alloc, &bars, order, points)?;
+    let gaps = gaps_of(alloc, part, shown)?;
     Ok(Scene {
         lanes,
         bars,
         ticks,
         dots,
+        gaps,
     })
 }

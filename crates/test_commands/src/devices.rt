@@ -1,7 +1,7 @@
-//! Writers that take little, or fail.
+//! Writers that take little, or fail; a reader without an end.
 use crate::asked::Asked;
 use std::io;
-use std::io::{ErrorKind, Write};
+use std::io::{ErrorKind, Read, Write};
 
 /// A writer that takes at most so many bytes at once, or fails at each call, or at each flush alone.
 #[derive(Drop)]
@@ -36,5 +36,15 @@ impl Write for Narrow {
             return Err(io::Error::from(ErrorKind::BrokenPipe));
         }
         Ok(())
+    }
+}
+
+/// A reader that always fills its block, with what stands there.
+#[derive(Drop)]
+pub struct Endless;
+
+impl Read for Endless {
+    fn read(&mut self, block: &mut [u8]) -> io::Result<usize> {
+        Ok(block.len())
     }
 }

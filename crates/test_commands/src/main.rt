@@ -12,6 +12,7 @@ mod counts;
 mod devices;
 mod feeding;
 mod formats;
+mod kept;
 mod names;
 mod notation;
 mod readings;
@@ -25,6 +26,7 @@ use commands::{say_command_row, say_seeds};
 use contents::{say_history_row, say_orders_row, say_script_row, say_writers_row};
 use counts::{say_counted_reads, say_counted_writes, say_faults, say_other_faults};
 use feeding::say_fed;
+use kept::{say_kept_reads, say_kept_sizes};
 use names::say_names;
 use readings::{Format, say_cuts, say_files_read};
 use std::process::ExitCode;
@@ -66,6 +68,8 @@ fn say_row(rt: &(impl Threads + Wait + Sync), out: &mut Answer, asked: Asked<'_>
         "names" => say_names(out, asked.lines),
         "counted-reads" => say_counted_reads(out, asked),
         "counted-writes" => say_counted_writes(out, asked.lines),
+        "kept-reads" => say_kept_reads(out, asked),
+        "kept-sizes" => say_kept_sizes(out, asked.lines),
         "file-faults" => say_faults(out, false),
         "script-faults" => say_faults(out, true),
         "other-faults" => say_other_faults(out),

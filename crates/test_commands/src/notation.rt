@@ -133,7 +133,7 @@ fn push_divided(bytes: &mut Vec<u8>, line: &str) -> Result<(), AllocError> {
     Ok(())
 }
 
-/// The bytes that the lines stand for; they are no more than a beginning where memory was refused.
+/// The bytes that the lines stand for; out of memory, no more than a beginning.
 pub fn bytes_of(out: &mut Answer, lines: &str) -> Vec<u8> {
     let mut bytes = Vec::new(out.alloc());
     for line in lines.lines() {

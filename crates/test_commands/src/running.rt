@@ -124,13 +124,23 @@ pub fn run(
             By::Values => {
                 let unchecked = way.unchecked;
                 let justifying = Justifying { unchecked };
-                judge_history_command(rt, alloc, &mut first, &justifying, out, errors)
+                judge_history_command(rt, alloc, &mut first, &justifying, out, errors).status
             }
         },
         "explain" => {
-            judge_orders_command(rt, alloc, &mut first, &mut orders, &explaining, out, errors)
+            judge_orders_command(
+                rt,
+                alloc,
+                &mut first,
+                &mut orders,
+                &explaining,
+                out,
+                errors,
+            ).status
         }
-        "explain-tags" => judge_history_command(rt, alloc, &mut first, &explaining, out, errors),
+        "explain-tags" => {
+            judge_history_command(rt, alloc, &mut first, &explaining, out, errors).status
+        }
         "decide" => match names_in(alloc, input.decided) {
             Ok(names) => {
                 let deciding = Deciding {
@@ -138,7 +148,7 @@ pub fn run(
                     most: selection.most,
                     form: way.form,
                 };
-                judge_history_command(rt, alloc, &mut first, &deciding, out, errors)
+                judge_history_command(rt, alloc, &mut first, &deciding, out, errors).status
             }
             Err(_) => Status::Failed,
         },

@@ -2,10 +2,13 @@
 use crate::asked::Asked;
 use counted_devices::Counting;
 use fault_details::{
-    explain_history_fault, explain_orders_fault, explain_script, explain_script_fault, seems_script,
+    Kept, KeptReader, explain_history_fault, explain_orders_fault, explain_script,
+    explain_script_fault, seems_script,
 };
 use fault_script::parse;
+use file_format::FileFault;
 use history_file::{read_numbered_histories, read_orders};
+use std::alloc::Global;
 use std::str;
 use std::thread::Threads;
 use tag::Memory;
@@ -28,35 +31,58 @@ fn file_of(asked: Asked<'_>) -> &[u8] {
     }
 }
 
-/// The first fault of a history file, and why it is one.
-pub fn say_history_why(rt: &(impl Threads + Sync), out: &mut Answer, asked: Asked<'_>) {
-    let (alloc, bytes) = (out.alloc(), file_of(asked));
-    match read_numbered_histories(rt, alloc, &mut Counting::new(Pieces::whole(bytes))) {
-        Ok(_) => out.push("no fault\n"),
-        Err(fault) => {
-            let mut reader = Counting::new(Pieces::whole(bytes));
-            let why = if seems_script(fault, bytes) {
-                let mut again = Counting::new(Pieces::whole(bytes));
-                explain_script(rt, alloc, &mut reader, &mut again)
-            } else {
-                explain_history_fault(rt, alloc, &mut reader, Pieces::whole(bytes), fault)
-            };
-            write!(out, "{fault}\n");
-            say_why(out, why);
-        }
+/// A reader of that file that keeps what it gives, as `abd` does of a pipe.
+fn kept_reader(alloc: Global, bytes: &[u8]) -> Counting<KeptReader<Pieces<'_>>> {
+    Counting::new(KeptReader::new(alloc, Pieces::whole(bytes)))
+}
+
+/// Why a history of these bytes has the fault, or a script that was given as one.
+fn history_why(
+    rt: &(impl Threads + Sync),
+    alloc: Global,
+    bytes: &[u8],
+    fault: FileFault,
+) -> Result<Vec<u8>, Memory> {
+    let mut reader = Counting::new(Pieces::whole(bytes));
+    let again = Pieces::whole(bytes);
+    if seems_script(fault, bytes) {
+        explain_script(rt, alloc, &mut reader, &mut Counting::new(again))
+    } else {
+        explain_history_fault(rt, alloc, &mut reader, again, fault)
     }
 }
 
-/// The first fault of an order file, and why it is one.
-pub fn say_orders_why(rt: &(impl Threads + Sync), out: &mut Answer, asked: Asked<'_>) {
-    let (alloc, bytes) = (out.alloc(), file_of(asked));
-    match read_orders(rt, alloc, &mut Counting::new(Pieces::whole(bytes))) {
+/// The first fault of a history file, and why it is one, by what was kept of it.
+pub fn say_history_why(rt: &(impl Threads + Sync), out: &mut Answer, asked: Asked<'_>) {
+    let alloc = out.alloc();
+    let mut reader = kept_reader(alloc, file_of(asked));
+    match read_numbered_histories(rt, alloc, &mut reader) {
         Ok(_) => out.push("no fault\n"),
-        Err(fault) => {
-            let why = explain_orders_fault(alloc, &mut Counting::new(Pieces::whole(bytes)), fault);
-            write!(out, "{fault}\n");
-            say_why(out, why);
-        }
+        Err(fault) => match reader.into_inner().kept() {
+            Kept::All(bytes) => {
+                write!(out, "{fault}\n");
+                say_why(out, history_why(rt, alloc, bytes.as_slice(), fault));
+            }
+            Kept::TooMany | Kept::NoMemory => out.refuse(),
+        },
+    }
+}
+
+/// The first fault of an order file, and why it is one, by what was kept of it.
+pub fn say_orders_why(rt: &(impl Threads + Sync), out: &mut Answer, asked: Asked<'_>) {
+    let alloc = out.alloc();
+    let mut reader = kept_reader(alloc, file_of(asked));
+    match read_orders(rt, alloc, &mut reader) {
+        Ok(_) => out.push("no fault\n"),
+        Err(fault) => match reader.into_inner().kept() {
+            Kept::All(bytes) => {
+                let mut again = Counting::new(Pieces::whole(bytes.as_slice()));
+                let why = explain_orders_fault(alloc, &mut again, fault);
+                write!(out, "{fault}\n");
+                say_why(out, why);
+            }
+            Kept::TooMany | Kept::NoMemory => out.refuse(),
+        },
     }
 }
 

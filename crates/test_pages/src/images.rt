@@ -8,6 +8,9 @@ const NEAR: u64 = 12;
 /// How far a line's text stands below its middle at most, in pixels.
 const BELOW: u64 = 10;
 
+/// How far below the middle of its row a line's text stands, in pixels.
+const BASE: u64 = 4;
+
 /// Whether the tag is the line over all columns of a row.
 fn is_row(tag: Tag<'_>) -> bool {
     tag.is("line", "tick") || tag.is("line", "step")
@@ -70,7 +73,11 @@ impl<'a> Picture<'a> {
                 let y = tag.number("y1");
                 inside = top <= y && y <= foot;
             }
-            if inside && (tag.is("text", "line") || tag.is("text", "source")) {
+            if inside && tag.is("text", "source") {
+                return tag.text;
+            }
+            let y = tag.number("y").saturating_sub(BASE);
+            if tag.is("text", "line") && top <= y && y <= foot {
                 return tag.text;
             }
         }

@@ -13,7 +13,7 @@ mod tags;
 mod texts;
 
 use cli::Status;
-use pages::{Extent, say_page, say_sums};
+use pages::{Extent, say_legend, say_page, say_sums};
 use running::run;
 use std::process::ExitCode;
 use std::thread::Threads;
@@ -23,6 +23,7 @@ use test_rows::{Answer, Said, run_rows, say_bytes};
 fn say_kind(out: &mut Answer, kind: &str, page: &str) {
     match kind {
         "sums" => say_sums(out, page),
+        "legend" => say_legend(out, page),
         _ => say_page(
             out,
             Extent {

@@ -118,6 +118,11 @@ fn say_mark(out: &mut Answer, picture: Picture<'_>, tag: Tag<'_>) {
     match tag.name {
         "title" => say_text(out, tag.text),
         "g" | "rect" if tag.class() == "curtain" || tag.class() == "band" => {}
+        "g" if !tag.value("aria-hidden").is_empty() => {}
+        "g" if tag.value("id").starts_with("call-") => {
+            say_line(out, tag.class(), tag.value("id"));
+            out.push(": ");
+        }
         "g" => say_line(out, tag.class(), ""),
         "polyline" if tag.class() == "path" => say_path(out, picture, tag.value("points")),
         "rect" | "polyline" => say_bar(out, picture, tag),
@@ -128,13 +133,41 @@ fn say_mark(out: &mut Answer, picture: Picture<'_>, tag: Tag<'_>) {
     }
 }
 
+/// How many groups are open of one that is seen only while something is pointed at, after the tag.
+fn lit_groups(open: u64, tag: Tag<'_>) -> u64 {
+    match (open, tag.name) {
+        (0, _) => u64::from(tag.is("g", "lit")),
+        (_, "g") => open.saturating_add(1),
+        (_, "/g") => open.saturating_sub(1),
+        _ => open,
+    }
+}
+
+/// Says how many calls are left out below which line.
+fn say_omitted(out: &mut Answer, picture: Picture<'_>) {
+    for piece in picture.text.split('<') {
+        let tag = Tag::read(piece);
+        if tag.is("text", "omitted") {
+            let line = picture.last_line_in(0, tag.number("y"));
+            write!(out, "\nbelow {line}: ");
+            say_text(out, tag.text);
+        }
+    }
+}
+
 /// Says what the picture shows.
 pub fn say_picture(out: &mut Answer, picture: Picture<'_>) {
     say_all(out, picture, "client");
     say_all(out, picture, "line");
+    say_omitted(out, picture);
     say_all(out, picture, "who");
     say_line(out, "picture", "");
+    let mut lit = 0;
     for piece in picture.text.split('<') {
-        say_mark(out, picture, Tag::read(piece));
+        let tag = Tag::read(piece);
+        lit = lit_groups(lit, tag);
+        if lit == 0 {
+            say_mark(out, picture, tag);
+        }
     }
 }

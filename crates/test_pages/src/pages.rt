@@ -24,6 +24,7 @@ fn say_cell(out: &mut Answer, text: &str) {
 fn say_frame(out: &mut Answer, tag: Tag<'_>) {
     match tag.name {
         "title" | "caption" | "summary" | "pre" => say_line(out, tag.name, tag.text.trim()),
+        "span" if !tag.value("id").is_empty() => say_line(out, tag.value("id"), tag.text),
         "h1" => say_line(out, "heading 1", tag.text),
         "section" => say_line(out, "section", tag.class()),
         "tr" if tag.class().is_empty() => out.push("\nheads"),
@@ -46,11 +47,20 @@ fn is_of_key(tag: Tag<'_>) -> bool {
     is_key(tag) || tag.value("scope") == "row" || tag.is("td", "count")
 }
 
+/// Says the words of a link in a sentence, and its place.
+fn say_link(out: &mut Answer, tag: Tag<'_>) {
+    say_text(out, tag.text);
+    let place = tag.value("href");
+    write!(out, "[{place}]");
+}
+
 /// Says what the tag shows.
 fn say_tag(out: &mut Answer, extent: Extent, tag: Tag<'_>) {
     match tag.name {
         "h2" => say_line(out, "heading 2", tag.text),
-        "p" if !tag.text.is_empty() => say_line(out, tag.class(), tag.text.trim()),
+        "p" if !tag.text.is_empty() => say_line(out, tag.class(), tag.text.trim_start()),
+        "a" if tag.value("href").starts_with("#call-") => say_link(out, tag),
+        "/a" => say_text(out, tag.text),
         "a" => {
             say_cell(out, tag.text);
             say_cell(out, tag.value("href"));
@@ -75,17 +85,33 @@ pub fn say_sums(out: &mut Answer, page: &str) {
         if is_key(tag) {
             rows = rows.saturating_add(1);
         }
-        if tag.name == "p" && !tag.text.is_empty() {
-            say_line(out, tag.class(), tag.text.trim());
+        match tag.name {
+            "p" if !tag.text.is_empty() => say_line(out, tag.class(), tag.text.trim_start()),
+            "a" if tag.value("href").starts_with("#call-") => say_link(out, tag),
+            "/a" => say_text(out, tag.text),
+            _ => {}
         }
     }
     write!(out, "\nrows: {rows}\n");
 }
 
-/// Says what the page says and shows.
-pub fn say_page(out: &mut Answer, extent: Extent, page: &str) {
-    for part in page.split("<svg ") {
-        match part.split_once("</svg>") {
+/// Says only what the page says that the signs of its pictures mean: the samples, and the sentences.
+pub fn say_legend(out: &mut Answer, page: &str) {
+    let (_, below) = page
+        .split_once("<p class=\"legend\">")
+        .unwrap_or((page, ""));
+    let (legend, _) = below.split_once("</p>").unwrap_or((below, ""));
+    out.push("\nlegend");
+    for piece in legend.split('<') {
+        say_cell(out, Tag::read(piece).text.trim());
+    }
+    out.push("\n");
+}
+
+/// Says the pictures, of which each lies in a box, and what stands outside.
+fn say_boxes(out: &mut Answer, extent: Extent, text: &str) {
+    for part in text.split("<div ") {
+        match part.split_once("</div>") {
             Some((text, rest)) => {
                 if extent.pictures {
                     say_picture(out, Picture { text });
@@ -95,5 +121,15 @@ pub fn say_page(out: &mut Answer, extent: Extent, page: &str) {
             None => say_tags(out, extent, part),
         }
     }
+}
+
+/// Says what the page says and shows, but for the strips that stand in the box of a diagram, before it.
+pub fn say_page(out: &mut Answer, extent: Extent, page: &str) {
+    let (above, rest) = page
+        .split_once("<div class=\"strips\">")
+        .unwrap_or((page, ""));
+    let (_strips, below) = rest.split_once("</div><svg ").unwrap_or(("", rest));
+    say_boxes(out, extent, above);
+    say_boxes(out, extent, below);
     out.push("\n");
 }

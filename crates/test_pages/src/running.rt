@@ -29,9 +29,9 @@ fn shown(
     let (out, errors) = (&mut outputs.out, &mut outputs.errors);
     let status = if asked.keys.orders.is_some() {
         let mut orders = file("o", orders);
-        judge_orders_command(rt, alloc, &mut history, &mut orders, shown, out, errors)
+        judge_orders_command(rt, alloc, &mut history, &mut orders, shown, out, errors).status
     } else {
-        judge_history_command(rt, alloc, &mut history, shown, out, errors)
+        judge_history_command(rt, alloc, &mut history, shown, out, errors).status
     };
     outputs.said(status)
 }
@@ -54,10 +54,14 @@ fn drawn(
 /// What comes of `abd trace --draw` of that script.
 fn traced(rt: &(impl Threads + Sync), alloc: Global, script: &str, most: u32) -> Said<Status> {
     let mut outputs = Outputs::new(alloc, AMPLE, AMPLE);
+    let words = script.as_bytes();
     let mut script = file("s", script);
     let (out, errors) = (&mut outputs.out, &mut outputs.errors);
-    let shown = Drawn::by_default();
-    let status = trace_page_command(rt, alloc, &mut script, most, shown, out, errors);
+    let shown = Drawn {
+        file: "s",
+        ..Drawn::by_default()
+    };
+    let status = trace_page_command(rt, alloc, &mut script, words, most, shown, out, errors);
     outputs.said(status)
 }
 

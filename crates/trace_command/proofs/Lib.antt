@@ -1,3 +1,4 @@
 mod NoRefusal
 mod Numbering
 mod Ending
+mod Added

@@ -16,10 +16,10 @@ use Rattle.cli.specs.declared.status.Status.{Status}
 use Rattle.draw_command.specs.declared.drawn.Drawn.{Drawn}
 use Rattle.trace_command.specs.TracePages.{IsTracePage}
 
--- the text is that of a page of the script, of so many steps at most
-abbrev pub IsTracePageText : ℕ → Drawn → Script → List ℕ → Type 0
-IsTracePageText most drawn script text = (page : Markup) × IsTracePage script most drawn page
-    × (text ≡ page_text page)
+-- the text is that of a page of the script, of so many steps at most, which shows those words of it
+abbrev pub IsTracePageText : List ℕ → ℕ → Drawn → Script → List ℕ → Type 0
+IsTracePageText words most drawn script text = (page : Markup)
+    × IsTracePage words script most drawn page × (text ≡ page_text page)
 
 -- nothing is made of a script: it isn't read to its end, or memory is wanted
 abbrev pub StopsScript : FileStates → Failure → Type 0

@@ -2,17 +2,17 @@
 ghost use Rattle.std.specs.Prelude.{◌≡◌, ◌++◌, IfOk, OnOk};
 ghost use Rattle.markup.specs.Markup.{Markup, opening_tag, page_text, rendered};
 ghost use Rattle.markup.specs.declared.names.Element.TheVariants as tag;
-ghost use Rattle.diagrams.specs.Layout.{HasClientsInOrder};
+ghost use Rattle.diagram_places.specs.Layout.{HasClientsInOrder};
 ghost use Rattle.judged_keys.specs.Halls.{HasLinesOfEach};
 ghost use Rattle.trace_command.specs.TracePages.{IsPageOf, all_styles, left_out};
 ghost use Rattle.trace_command.specs.TracePages.{messages_markup, run_markup, steps_line};
-ghost use Rattle.trace_command.specs.TracePages.{told_box, trace_markup};
+ghost use Rattle.trace_command.specs.TracePages.{script_markup, text_box, trace_markup};
 
-use crate::texts::append_told;
+use crate::texts::{append_script, append_told};
 use crate::words;
 use diagrams::{append_diagram, append_diagram_legend, append_diagram_style};
 use draw_command::{
-    Drawn, add_history_pictures, append_styles, begin_content, begin_page, end_page,
+    Drawn, add_history_pictures, append_styles, begin_content, begin_page, end_page, title_of,
 };
 use history_file::NumberedHistories;
 use markup::{
@@ -23,10 +23,11 @@ use message_scenes::MessageScene;
 use std::alloc::Global;
 use tag::Memory;
 
-/// What is drawn of a run: its scene, its trace, and the history that it records.
+/// What is drawn of a run: its scene, the words of its script, its trace, and the history that it records.
 #[derive(Clone, Copy)]
 pub(crate) struct RunShown<'a> {
     pub(crate) scene: &'a MessageScene,
+    pub(crate) script: &'a [u8],
     pub(crate) trace: &'a [u8],
     pub(crate) numbered: &'a NumberedHistories,
     pub(crate) drawn: Drawn<'a>,
@@ -78,17 +79,33 @@ fn append_messages(alloc: Global, page: &mut Vec<u8>, scene: &MessageScene) -> R
     append_diagram(alloc, page, scene)
 }
 
-/// Opens the box of the trace.
+/// Opens the box of a text of that name.
 #[tactic(auto, unfolding(markup::specs::Markup::rendered))]
-fn open_told(page: &mut Vec<u8>) -> Result<(), Memory>
-    ensures { OnOk result (page.new.items ≡ page.old.items ++ opening_tag tag.Pre told_box) }
+fn open_box(page: &mut Vec<u8>, label: &str) -> Result<(), Memory>
+    ensures { OnOk result
+        (page.new.items ≡ page.old.items ++ opening_tag tag.Pre (text_box label.now)) }
 {
     let attributes = [
         Attribute::Words(AttributeName::Role, words::REGION),
-        Attribute::Words(AttributeName::AriaLabel, words::EACH_STEP),
+        Attribute::Words(AttributeName::AriaLabel, label),
         Attribute::Number(AttributeName::Tabindex, 0),
     ];
     append_opening(page, Element::Pre, &attributes)
+}
+
+/// Adds the script.
+#[tactic(auto, unfolding(markup::specs::Markup::rendered))]
+fn append_script_box(alloc: Global, page: &mut Vec<u8>, script: &[u8]) -> Result<(), Memory>
+    ensures { OnOk result
+        (page.new.items ≡ page.old.items ++ rendered (script_markup script.now)) }
+{
+    let class = Attribute::Words(AttributeName::Class, words::SCRIPT);
+    append_opening(page, Element::Details, &[class])?;
+    append_plain(page, Element::Summary, words::THE_SCRIPT)?;
+    open_box(page, words::THE_SCRIPT)?;
+    append_script(alloc, page, script)?;
+    append_closing(page, Element::Pre)?;
+    append_closing(page, Element::Details)
 }
 
 /// Adds the trace.
@@ -99,7 +116,7 @@ fn append_trace(alloc: Global, page: &mut Vec<u8>, trace: &[u8]) -> Result<(), M
     let class = Attribute::Words(AttributeName::Class, words::TOLD);
     append_opening(page, Element::Details, &[class])?;
     append_plain(page, Element::Summary, words::EACH_STEP)?;
-    open_told(page)?;
+    open_box(page, words::EACH_STEP)?;
     append_told(alloc, page, trace)?;
     append_closing(page, Element::Pre)?;
     append_closing(page, Element::Details)
@@ -111,31 +128,34 @@ fn append_run(
     alloc: Global,
     page: &mut Vec<u8>,
     scene: &MessageScene,
+    script: &[u8],
     trace: &[u8],
 ) -> Result<(), Memory>
     requires { HasClientsInOrder scene.now }
     ensures { OnOk result (page.new.items
-        ≡ page.old.items ++ rendered (run_markup scene.now trace.now)) }
+        ≡ page.old.items ++ rendered (run_markup scene.now script.now trace.now)) }
 {
     append_steps(page, scene)?;
     append_messages(alloc, page, scene)?;
+    append_script_box(alloc, page, script)?;
     append_trace(alloc, page, trace)?;
     append_plain(page, Element::H2, words::HISTORY)
 }
 
-/// The page of the run.
+/// The page of the run; its title is the file of `drawn`.
 pub(crate) fn page_of(alloc: Global, shown: &RunShown<'_>) -> Result<Vec<u8>, Memory>
     requires clients { HasClientsInOrder shown.now.scene.now }
     requires lines { HasLinesOfEach shown.now.numbered.now }
     ensures { IfOk result (λ page. (markup : Markup) × IsPageOf shown.now.scene.now
-        shown.now.trace.now shown.now.numbered.now shown.now.drawn markup
+        shown.now.script.now shown.now.trace.now shown.now.numbered.now shown.now.drawn markup
         × (page.items ≡ page_text markup)) }
 {
     let mut page = Vec::new(alloc);
-    begin_page(&mut page, words::TITLE)?;
+    let title = title_of(shown.drawn.file, words::TITLE);
+    begin_page(&mut page, title)?;
     append_all_styles(&mut page)?;
-    begin_content(&mut page, words::TITLE)?;
-    append_run(alloc, &mut page, shown.scene, shown.trace)?;
+    begin_content(&mut page, title)?;
+    append_run(alloc, &mut page, shown.scene, shown.script, shown.trace)?;
     add_history_pictures(alloc, &mut page, shown.numbered, shown.drawn)?;
     end_page(&mut page)?;
     Ok(page)

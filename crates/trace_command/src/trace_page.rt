@@ -19,10 +19,12 @@ use tag::Memory;
 fn page_of_script(
     alloc: Global,
     script: Script,
+    words: &[u8],
     most: u32,
     drawn: Drawn<'_>,
 ) -> Result<Vec<u8>, Memory>
-    ensures { IfOk result (λ page. IsTracePageText most drawn.entry script page.items) }
+    ensures { IfOk result (λ page.
+        IsTracePageText words.now most drawn.entry script page.items) }
 {
     let Observed {
         scene,
@@ -32,6 +34,7 @@ fn page_of_script(
     let numbered = numbered_of(alloc, history)?;
     let shown = RunShown {
         scene: &scene,
+        script: words,
         trace: trace.as_slice(),
         numbered: &numbered,
         drawn,
@@ -40,8 +43,9 @@ fn page_of_script(
 }
 
 /// Reads the script, runs it, and writes its page: a diagram of the messages of the run, with `most`
-/// steps at most, the trace of `trace_command`, and the pictures of the history that the run records,
-/// as the page of `abd draw` without orders has them.
+/// steps at most, the script's words, as they are given, the trace of `trace_command`, and the
+/// pictures of the history that the run records, as the page of `abd draw` without orders has them.
+/// Its title is the file of `drawn`.
 ///
 /// The steps and the history are those of `simulate_command`; the lines that a picture names are
 /// those of the file that it writes. What goes to `out` is that page, once the whole of it is made, or
@@ -51,12 +55,13 @@ pub fn trace_page_command<'a, S: CountedRead, W: CountedWrite, E: CountedWrite>(
     rt: &(impl Threads + Sync),
     alloc: Global,
     script: &mut Source<'a, S>,
+    words: &[u8],
     most: u32,
     drawn: Drawn<'_>,
     out: &mut W,
     errors: &mut E,
 ) -> Status
-    ensures { EndsOnScript (IsTracePageText most drawn.entry)
+    ensures { EndsOnScript (IsTracePageText words.now most drawn.entry)
         (file_states S.remaining S.failures script.old script.new)
         (writer_states W.contents W.failures out.old out.new)
         (writer_states E.contents E.failures errors.old errors.new)
@@ -64,7 +69,7 @@ pub fn trace_page_command<'a, S: CountedRead, W: CountedWrite, E: CountedWrite>(
 {
     match script_in(rt, alloc, script) {
         Ok(script) => {
-            let page = page_of_script(alloc, script, most, drawn);
+            let page = page_of_script(alloc, script, words, most, drawn);
             conclude(made_of(alloc, page), out, errors)
         }
         Err(failure) => failure.report(errors),

@@ -10,10 +10,14 @@ use Rattle.recorder.specs.declared.row.Row.{Row}
 use Rattle.history_file.specs.declared.numbered_format.NumberedHistories.{NumberedHistories}
 use Rattle.markup.specs.Markup.{rendered}
 use Rattle.witness_order.specs.RecordOrders.{AreOrdersOf}
+use Rattle.store_orders.specs.Turns.{AreCallsOf}
 use Rattle.parallel_keys.specs.CheckedKeys.{CheckedKey, KeyParts, recorded_key}
 use Rattle.scenes.proofs.ShownCalls.{places_up}
 use Rattle.scenes.specs.declared.scene.Scene.{Scene}
+use Rattle.call_links.specs.Ids.{bar_ids, bar_targets}
+use Rattle.draw_command.specs.Pages.{showing_markup}
 use Rattle.pictures.specs.Layout.{IsInOrder}
+use Rattle.pictures.specs.declared.keys.CallKeys.TheVariants as keys
 use Rattle.pictures.specs.declared.picture.Picture.{Picture}
 use Rattle.explanations.specs.declared.hall_rows.HallRows.{HallRows}
 use Rattle.judged_keys.specs.Halls.{IsHallOfKey}
@@ -24,8 +28,8 @@ use Rattle.draw_command.specs.Drawings.{IsWhy}
 use Rattle.draw_command.specs.Making.{Adds}
 use Rattle.draw_command.specs.declared.drawn.Drawn.{Drawn}
 use Rattle.whole_pictures.specs.Together.{IsOwnOrder, IsTogether}
-use Rattle.whole_pictures.specs.WholePages.{IsPictureOfHall, IsSectionOfHall, IsSectionOfOthers, others_markup, section_markup}
-use Rattle.whole_pictures.specs.WholeScenes.{CanBeShown, CanHavePoints, IsWholeScene}
+use Rattle.whole_pictures.specs.WholePages.{IsHall, IsPictureOfHall, IsSectionOfHall, IsSectionOfOthers, others_markup, reason_markup, section_markup}
+use Rattle.whole_pictures.specs.WholeScenes.{CanBeShown, CanHavePoints, IsShownOf, IsWholeScene}
 use Rattle.whole_pictures.specs.declared.together.Together.{Together}
 use Rattle.whole_pictures.specs.declared.together.Together.TheVariants as together
 
@@ -55,15 +59,51 @@ no_call rows order none calls are = (
 pub in_order : (drawn : Drawn) (rows : List Row) (calls : List Call) (order faulty : List OpId) (scene : Scene)
     → IsWholeScene drawn rows calls order faulty scene → IsInOrder scene
 in_order drawn rows calls order faulty scene is =
-    record { ticks = is.is.ticks.rising; dots = places_up rows calls is.shown order is.points scene is.points_are is.is }
+    record {
+      ticks = is.is.ticks.rising;
+      dots = places_up rows calls is.shown order is.points scene is.points_are is.is;
+      gaps = is.is.gaps.rising;
+    }
 
--- the section of a picture
+-- what the picture was made of makes it that of its hall
+pub picture_of_hall : (numbered : NumberedHistories) (drawn : Drawn) (n : ℕ) (t : Together) (words : List ℕ) (picture : Picture)
+    → (hall : HallRows) (calls : List Call) (order faulty : List OpId) (scene : Scene)
+    → picture.keys ≡ keys.Recorded → picture.hall ≡ hall → picture.part.now ≡ calls → picture.scene.now ≡ scene → picture.faulty.now ≡ faulty
+    → picture.ids.now ≡ bar_ids n → IsHall numbered n hall → AreCallsOf hall.history.now.rows calls → IsShownOf hall t order words faulty
+    → IsWholeScene drawn hall.history.now.rows calls order faulty scene → IsPictureOfHall numbered drawn n t words picture
+picture_of_hall numbered drawn n t words picture hall calls order faulty scene each of_hall of_calls of_scene of_faulty ids is_hall are shown whole =
+    let rows = hall.history.now.rows in
+    let hall_is = sym of_hall in
+    let calls_are = sym of_calls in
+    let faulty_are = sym of_faulty in
+    record {
+      each = each;
+      hall = subst (IsHall numbered n) hall_is is_hall;
+      calls = subst (λ (h : HallRows). AreCallsOf h.history.now.rows picture.part.now) hall_is (subst (AreCallsOf rows) calls_are are);
+      order = order;
+      shown = subst (λ (h : HallRows). IsShownOf h t order words picture.faulty.now) hall_is (subst (IsShownOf hall t order words) faulty_are shown);
+      scene = subst (λ (h : HallRows). IsWholeScene drawn h.history.now.rows picture.part.now order picture.faulty.now picture.scene.now) hall_is
+          (subst (λ (cs : List Call). IsWholeScene drawn rows cs order picture.faulty.now picture.scene.now) calls_are
+          (subst (λ (fs : List OpId). IsWholeScene drawn rows calls order fs picture.scene.now) faulty_are
+          (subst (IsWholeScene drawn rows calls order faulty) (sym of_scene) whole)));
+      ids = ids;
+    }
+
+-- the section of a picture: its sentences lead to its bars
 pub section_added : (numbered : NumberedHistories) (drawn : Drawn) (n : ℕ) (t : Together) (words : List ℕ) (picture : Picture)
     → IsPictureOfHall numbered drawn n t words picture
-    → (old new : List ℕ) → new ≡ old ++ rendered (section_markup n (length numbered.histories.halls) t words picture)
+    → (targets : List ℕ) (calls : List OpId) → targets ≡ bar_targets n → picture.faulty.now ≡ calls
+    → (old new : List ℕ) → new ≡ old ++ rendered (section_markup n (length numbered.histories.halls) t
+    (reason_markup targets calls t words) (showing_markup drawn.around picture))
     → Adds (IsSectionOfHall numbered drawn n t) old new
-section_added numbered drawn n t words picture is old new added =
-    (section_markup n (length numbered.histories.halls) t words picture, (words, picture, is, refl), added)
+section_added numbered drawn n t words picture is targets calls of_hall faulty old new added =
+    let section = λ (ts : List ℕ) (cs : List OpId).
+    section_markup n (length numbered.histories.halls) t (reason_markup ts cs t words) (showing_markup drawn.around picture) in (
+      section (bar_targets n) picture.faulty.now,
+      (words, picture, is, refl),
+      subst (λ (ts : List ℕ). new ≡ old ++ rendered (section ts picture.faulty.now)) of_hall
+          (subst (λ (cs : List OpId). new ≡ old ++ rendered (section targets cs)) (sym faulty) added),
+    )
 
 -- the section that says why a key without calls is refused
 pub others_added : (numbered : NumberedHistories) (key : JudgedKey) (hall : HallRows) (words : List ℕ) (faulty : List OpId)

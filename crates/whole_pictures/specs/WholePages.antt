@@ -1,7 +1,7 @@
 -- The page of whole histories: a section for each hall, with a picture of all its calls.
-use Rattle.std.specs.Prelude.{ℕ, ◌≡◌, List, [], ◌∷◌, ◌++◌, Some, cond, decimal, length, map}
+use Rattle.std.specs.Prelude.{ℕ, ◌≡◌, Bool, List, [], ◌∷◌, ◌++◌, Some, cond, decimal, length, map}
 use Rattle.std.specs.Prelude.{nat_lt, slice_get}
-use Rattle.std.specs.List.{AllZip}
+use Rattle.std.specs.List.{AllZip, list_any}
 use Rattle.markup.specs.Markup.{Markup, nothing, text, element, both, page_text}
 use Rattle.markup.specs.Texts.{of_class, plain}
 use Rattle.markup.specs.declared.names.AttributeName.TheVariants as name
@@ -15,6 +15,8 @@ use Rattle.parallel_keys.specs.CheckedKeys.{CheckedKey, KeyParts, all_parts, rec
 use Rattle.parallel_keys.specs.Histories.{AreHallParts}
 use Rattle.store_orders.specs.Turns.{AreCallsOf}
 use Rattle.explanations.specs.declared.hall_rows.HallRows.{HallRows}
+use Rattle.call_links.specs.Ids.{bar_ids, bar_targets}
+use Rattle.cli.specs.Hints.{has_note}
 use Rattle.pictures.specs.Sheets.{legend}
 use Rattle.pictures.specs.declared.keys.CallKeys.TheVariants as keys
 use Rattle.pictures.specs.declared.picture.Picture.{Picture}
@@ -29,7 +31,7 @@ use Rattle.judged_keys.specs.declared.judged.Judged.{Judged}
 use Rattle.draw_command.specs.Drawings.{IsWhy}
 use Rattle.draw_command.specs.Frames.{page_frame}
 use Rattle.draw_command.specs.Pages.{IsBelowHint, IsEach, IsFramed, finding_said, showing_markup}
-use Rattle.draw_command.specs.Pages.{styles_markup, why_markup}
+use Rattle.draw_command.specs.Pages.{styles_markup, title_words, why_markup}
 use Rattle.draw_command.specs.declared.drawn.Drawn.{Drawn}
 use Rattle.whole_pictures.specs.Together.{IsTogether, found_of_all}
 use Rattle.whole_pictures.specs.WholeScenes.{IsShownOf, IsWholeScene}
@@ -62,34 +64,38 @@ abbrev pub heading_markup : ℕ → ℕ → Together → Markup
 heading_markup n halls t = element tag.H2 []
     (both (hall_words n halls) (both (text word.ALL_KEYS.now) (text (found_words t))))
 
--- what was found of a key, and why
-abbrev pub key_markup : JudgedKey → List ℕ → Markup
-key_markup key words =
+-- what was found of a key, and why: the calls that the sentences name lead to their bars
+abbrev pub key_markup : List ℕ → List OpId → JudgedKey → List ℕ → Markup
+key_markup targets calls key words =
     both (element tag.P (of_class word.WHY.now) (finding_said (judgement_of key)))
-    (why_markup words)
+    (why_markup targets calls words)
 
 -- the same of the key that is refused or undecided, if one is
-abbrev pub reason_markup : Together → List ℕ → Markup
-reason_markup (together.Ordered orders) words = nothing
-reason_markup (together.Refused key) words = key_markup key words
-reason_markup (together.Undecided key) words = key_markup key words
+abbrev pub reason_markup : List ℕ → List OpId → Together → List ℕ → Markup
+reason_markup targets calls (together.Ordered orders) words = nothing
+reason_markup targets calls (together.Refused key) words = key_markup targets calls key words
+reason_markup targets calls (together.Undecided key) words = key_markup targets calls key words
 
 -- the section of a hall: its heading, what was found of a key that is refused or undecided, and
--- the picture
-abbrev pub section_markup : ℕ → ℕ → Together → List ℕ → Picture → Markup
-section_markup n halls t words picture = element tag.Section
+-- what is shown
+abbrev pub section_markup : ℕ → ℕ → Together → Markup → Markup → Markup
+section_markup n halls t reason showing = element tag.Section
     (record { name = name.Id; value = word.HALL_ID.now ++ decimal n }
     ∷ record { name = name.Class; value = found_class t } ∷ [])
-    (both (heading_markup n halls t) (both (reason_markup t words) (showing_markup picture)))
+    (both (heading_markup n halls t) (both reason showing))
 
 -- the section of keys without calls
 abbrev pub others_markup : Together → List ℕ → Markup
 others_markup t words = element tag.Section
     (record { name = name.Id; value = word.OTHERS_ID.now }
     ∷ record { name = name.Class; value = found_class t } ∷ [])
-    (both (plain tag.H2 word.NO_CALLS.now) (reason_markup t words))
+    (both (plain tag.H2 word.NO_CALLS.now) (reason_markup [] [] t words))
 
 -- ---- the page
+
+-- a call on one of the keys has a note
+abbrev pub have_notes : List CheckedKey → Bool
+have_notes keys = list_any (λ one. has_note one.part) keys
 
 -- that was found of the keys of each hall
 abbrev pub AreFoundOf : Judged → List KeyOrder → List KeyParts → List Together → Type 0
@@ -121,7 +127,7 @@ module _ (numbered : NumberedHistories) where
 
 module _ (numbered : NumberedHistories) (drawn : Drawn) where
   -- the picture of all calls of a hall of whose keys that was found; the words say why one of them
-  -- is refused
+  -- is refused, and the ids of its bars are those of that hall
   pub record IsPictureOfHall (n : ℕ) (t : Together) (words : List ℕ) (picture : Picture) : Type 0
     where
       pub each : picture.keys ≡ keys.Recorded
@@ -131,12 +137,15 @@ module _ (numbered : NumberedHistories) (drawn : Drawn) where
       pub shown : IsShownOf picture.hall t order words picture.faulty.now
       pub scene : IsWholeScene drawn picture.hall.history.now.rows picture.part.now order
           picture.faulty.now picture.scene.now
+      pub ids : picture.ids.now ≡ bar_ids n
 
   -- the section of the hall of that number, of whose keys that was found
   abbrev pub IsSectionOfHall : ℕ → Together → Markup → Type 0
   IsSectionOfHall n t section = (words : List ℕ) × (picture : Picture)
       × IsPictureOfHall n t words picture
-      × (section ≡ section_markup n (length numbered.histories.halls) t words picture)
+      × (section ≡ section_markup n (length numbered.histories.halls) t
+      (reason_markup (bar_targets n) picture.faulty.now t words)
+      (showing_markup drawn.around picture))
 
   -- what a page says and shows of the keys: for each hall its section, and one for keys without
   -- calls
@@ -156,17 +165,17 @@ module _ (numbered : NumberedHistories) (drawn : Drawn) where
       pub last : Markup
       pub last_is : IsSectionOfOthers numbered rest last
       pub found_is : f ≡ found_of_all found.Good (halls ++ rest ∷ [])
-      pub is : content ≡ both legend (both sections last)
+      pub is : content ≡ both (legend (have_notes checked)) (both sections last)
 
 -- the page around what it says and shows
-abbrev pub page_markup : Markup → Markup
-page_markup content = page_frame word.TITLE.now styles_markup content
+abbrev pub page_markup : List ℕ → Markup → Markup
+page_markup file content = page_frame (title_words file word.TITLE.now) styles_markup content
 
 -- the page of whole histories, and what was found of all
 pub record IsWholePage (whole : Whole) (numbered : NumberedHistories) (checked : List CheckedKey)
     (outcome : Outcome) : Type 0 where
   pub page : Markup
-  pub page_is : IsFramed page_markup
+  pub page_is : IsFramed (page_markup whole.drawn.file.now)
       (IsBelowHint (judges_no_notes whole.drawn.selection.judged checked)
       (IsWholeContent numbered whole.drawn checked outcome.found)) page
   pub text : outcome.text.items ≡ page_text page

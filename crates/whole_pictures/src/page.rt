@@ -1,5 +1,7 @@
 //! What a page says and shows of histories.
 ghost use Rattle.std.specs.Prelude.{◌≡◌, ◌<◌, IfOk, List, Some, length, map, slice_get};
+ghost use Rattle.std.specs.List.{list_any};
+ghost use Rattle.cli.specs.Hints.{has_note};
 ghost use Rattle.recorder.specs.Histories.{Recorded};
 ghost use Rattle.recorder.specs.Records.{AreParts};
 ghost use Rattle.recorder.specs.declared.order.KeyOrder.{KeyOrder};
@@ -14,7 +16,7 @@ ghost use Rattle.whole_pictures.specs.WholePages.{IsWholeContent};
 use crate::section::{add_others, add_section, hall_at};
 use crate::together::Together;
 use crate::whole::Task;
-use cli::Found;
+use cli::{Found, has_note};
 use parallel_keys::KeyToCheck;
 use pictures::append_legend;
 use recorder::laws::the_parts_are_one_list;
@@ -50,6 +52,13 @@ fn key_count(task: &Task<'_>, number: usize) -> Result<usize, Memory>
     Ok(parts.len())
 }
 
+/// Whether a call on one of the keys has a note.
+fn have_notes(keys: &[KeyToCheck<'_>]) -> bool
+    ensures { result ≡ list_any (λ one. has_note one.part) keys.now }
+{
+    keys.iter().any(|one| has_note(&one.part))
+}
+
 /// Adds a section for each hall, and one of the keys without calls if one of them is refused. What was
 /// found of all.
 pub(crate) fn add_halls(
@@ -64,7 +73,8 @@ pub(crate) fn add_halls(
     ensures { IfOk result (λ found. Adds (IsWholeContent task.now.numbered.now task.now.drawn
         (map what_of keys.now) found) page.old.items page.new.items) }
 {
-    append_legend(page)?;
+    let tagged = have_notes(keys);
+    append_legend(page, tagged)?;
     let halls = task.numbered.histories.halls().len();
     let mut found = Found::Good;
     let mut from = 0usize;

@@ -7,9 +7,10 @@ ghost use Rattle.pictures.specs.Layout.{IsInOrder};
 ghost use Rattle.store_orders.specs.Turns.{AreCallsOf};
 ghost use Rattle.judged_keys.specs.Halls.{HasLinesOfEach};
 ghost use Rattle.draw_command.specs.Making.{Adds};
+ghost use Rattle.draw_command.specs.Pages.{showing_markup};
 ghost use Rattle.whole_pictures.specs.Together.{IsTogether};
 ghost use Rattle.whole_pictures.specs.WholePages.{AreOfHall, IsHall, IsSectionOfHall, IsSectionOfOthers};
-ghost use Rattle.whole_pictures.specs.WholePages.{others_markup, section_markup};
+ghost use Rattle.whole_pictures.specs.WholePages.{others_markup, reason_markup, section_markup};
 ghost use Rattle.whole_pictures.specs.WholeScenes.{CanBeShown};
 
 use crate::found::shown_of;
@@ -18,6 +19,7 @@ use crate::texts::{append_heading, append_reason, found_class};
 use crate::together::{Together, judge_together};
 use crate::whole::Task;
 use crate::words;
+use call_links::{Links, bar_ids, bar_targets};
 use draw_command::{append_showing, why_of};
 use explanations::HallRows;
 use history_file::NumberedHistories;
@@ -27,40 +29,73 @@ use merged_keys::{all_calls, merge_keys};
 use parallel_keys::KeyToCheck;
 use pictures::{CallKeys, Picture};
 use recorder::Part;
+use scenes::Scene;
 use std::alloc::Global;
 use store_orders::laws::all_calls_are_apart;
-use tag::Memory;
+use tag::{Memory, OpId};
 
-/// What a section says above its picture.
+/// What the section of a hall says above its picture, beside what was found of the keys together.
 #[derive(Clone, Copy)]
 struct Saying<'a> {
     /// The number of the hall, and how many halls there are.
     number: usize,
     halls: usize,
-    together: &'a Together<'a>,
     /// The sentences that say why a key is refused.
     why: &'a [u8],
+    links: Links<'a>,
+    /// The call around which calls are to be shown, if one is given.
+    around: Option<u64>,
 }
 
-/// Adds the section that says that and shows that picture.
-#[tactic(auto, unfolding(markup::specs::Markup::rendered))]
-fn append_section(
-    alloc: Global,
-    page: &mut Vec<u8>,
-    saying: Saying<'_>,
-    picture: &Picture<'_>,
-) -> Result<(), Memory>
-    requires { IsInOrder picture.now.scene.now }
-    ensures { OnOk result (page.new.items ≡ page.old.items ++ rendered (section_markup saying.entry.number
-        saying.entry.halls saying.entry.together.now saying.entry.why.now picture.now)) }
+impl Saying<'_> {
+    /// Adds the section that says that and shows that picture.
+    #[tactic(auto, unfolding(markup::specs::Markup::rendered))]
+    fn append(
+        &self,
+        alloc: Global,
+        page: &mut Vec<u8>,
+        together: &Together<'_>,
+        picture: &Picture<'_>,
+    ) -> Result<(), Memory>
+        requires { IsInOrder picture.now.scene.now }
+        ensures { OnOk result (page.new.items ≡ page.old.items ++ rendered
+            (section_markup self.now.number self.now.halls together.now
+            (reason_markup self.now.links.targets.now self.now.links.calls.now together.now
+            self.now.why.now) (showing_markup self.now.around picture.now))) }
+    {
+        let id = Attribute::Numbered(AttributeName::Id, words::HALL_ID, self.number as u64);
+        let class = Attribute::Words(AttributeName::Class, found_class(together));
+        append_opening(page, Element::Section, &[id, class])?;
+        append_heading(page, self.number, self.halls, together)?;
+        append_reason(alloc, page, &self.links, together, self.why)?;
+        append_showing(alloc, page, self.around, picture)?;
+        append_closing(page, Element::Section)
+    }
+}
+
+/// The picture of all calls of a hall, as the scene has them; the ids of its bars begin with `ids`.
+fn picture_of<'a>(
+    hall: HallRows<'a>,
+    calls: &'a Part<'a>,
+    scene: &'a Scene,
+    faulty: &'a [OpId],
+    ids: &'a str,
+) -> Picture<'a>
+    ensures keys { result.keys ≡ CallKeys.Recorded }
+    ensures hall { result.hall ≡ hall.entry }
+    ensures calls { result.part.now ≡ calls.now }
+    ensures scene { result.scene.now ≡ scene.now }
+    ensures faulty { result.faulty.now ≡ faulty.now }
+    ensures ids { result.ids.now ≡ ids.now }
 {
-    let id = Attribute::Numbered(AttributeName::Id, words::HALL_ID, saying.number as u64);
-    let class = Attribute::Words(AttributeName::Class, found_class(saying.together));
-    append_opening(page, Element::Section, &[id, class])?;
-    append_heading(page, saying.number, saying.halls, saying.together)?;
-    append_reason(alloc, page, saying.together, saying.why)?;
-    append_showing(alloc, page, picture)?;
-    append_closing(page, Element::Section)
+    Picture {
+        keys: CallKeys::Recorded,
+        hall,
+        part: calls,
+        scene,
+        faulty,
+        ids,
+    }
 }
 
 /// Draws these calls of the hall, and adds its section.
@@ -84,22 +119,21 @@ fn draw_calls(
     let order = shown.order.as_slice();
     let faulty = shown.why.faulty.as_slice();
     let scene = whole_scene(alloc, &task.drawn, hall.history, calls, order, faulty)?;
+    let ids = bar_ids(alloc, number)?;
+    let targets = bar_targets(alloc, number)?;
+    let picture = picture_of(hall, calls, &scene, faulty, ids.as_str());
     let halls = task.numbered.histories.halls().len();
-    let why = shown.why.text.as_slice();
     let saying = Saying {
         number,
         halls,
-        together,
-        why,
+        why: shown.why.text.as_slice(),
+        links: Links {
+            targets: targets.as_str(),
+            calls: faulty,
+        },
+        around: task.drawn.around,
     };
-    let picture = Picture {
-        keys: CallKeys::Recorded,
-        hall,
-        part: calls,
-        scene: &scene,
-        faulty,
-    };
-    append_section(alloc, page, saying, &picture)
+    saying.append(alloc, page, together, &picture)
 }
 
 /// Draws all calls of the hall, and adds its section.
@@ -173,7 +207,11 @@ fn append_others(
     let class = Attribute::Words(AttributeName::Class, found_class(together));
     append_opening(page, Element::Section, &[id, class])?;
     append_plain(page, Element::H2, words::NO_CALLS)?;
-    append_reason(alloc, page, together, why)?;
+    let links = Links {
+        targets: "",
+        calls: &[],
+    };
+    append_reason(alloc, page, &links, together, why)?;
     append_closing(page, Element::Section)
 }
 

@@ -6,6 +6,7 @@ ghost use Rattle.whole_pictures.specs.WholePages.{key_markup, reason_markup};
 
 use crate::together::Together;
 use crate::words;
+use call_links::Links;
 use draw_command::{append_finding, append_why};
 use judged_keys::JudgedKey;
 use markup::{
@@ -72,17 +73,18 @@ pub(crate) fn append_heading(
 fn append_key(
     alloc: Global,
     page: &mut Vec<u8>,
+    links: &Links<'_>,
     key: &JudgedKey<'_>,
     why: &[u8],
 ) -> Result<(), Memory>
-    ensures { OnOk result
-        (page.new.items ≡ page.old.items ++ rendered (key_markup key.now why.now)) }
+    ensures { OnOk result (page.new.items ≡ page.old.items ++ rendered
+        (key_markup links.now.targets.now links.now.calls.now key.now why.now)) }
 {
     let class = Attribute::Words(AttributeName::Class, words::WHY);
     append_opening(page, Element::P, &[class])?;
     append_finding(alloc, page, key)?;
     append_closing(page, Element::P)?;
-    append_why(alloc, page, why)
+    append_why(alloc, page, links, why)
 }
 
 /// Adds what was found of the key that is refused or undecided, if one is, and why.
@@ -90,15 +92,16 @@ fn append_key(
 pub(crate) fn append_reason(
     alloc: Global,
     page: &mut Vec<u8>,
+    links: &Links<'_>,
     together: &Together<'_>,
     why: &[u8],
 ) -> Result<(), Memory>
-    ensures { OnOk result (page.new.items
-        ≡ page.old.items ++ rendered (reason_markup together.now why.now)) }
+    ensures { OnOk result (page.new.items ≡ page.old.items ++ rendered
+        (reason_markup links.now.targets.now links.now.calls.now together.now why.now)) }
 {
     match together {
         Together::Ordered(_) => Ok(()),
-        Together::Refused(key) => append_key(alloc, page, key, why),
-        Together::Undecided(key) => append_key(alloc, page, key, why),
+        Together::Refused(key) => append_key(alloc, page, links, key, why),
+        Together::Undecided(key) => append_key(alloc, page, links, key, why),
     }
 }

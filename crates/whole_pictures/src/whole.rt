@@ -6,7 +6,9 @@ use crate::page::add_halls;
 use crate::words;
 use cli::{Made, Outcome};
 use command_line::DrawAsked;
-use draw_command::{Drawn, append_hint, append_styles, begin_content, begin_page, end_page};
+use draw_command::{
+    Drawn, append_hint, append_styles, begin_content, begin_page, end_page, title_of,
+};
 use history_file::NumberedHistories;
 use judged_keys::Presentation;
 use parallel_keys::KeyToCheck;
@@ -22,6 +24,7 @@ pub struct Whole<'a> {
 impl<'a> Whole<'a> {
     /// What the words ask for.
     pub fn of(asked: &DrawAsked<'a>) -> Whole<'a>
+        ensures file { result.drawn.file.now ≡ asked.now.keys.history.now }
         ensures judged { result.drawn.selection.judged
             ≡ drawn_by asked.now.by (is_some asked.now.keys.orders) }
         ensures calls { result.drawn.calls ≡ asked.now.calls }
@@ -60,9 +63,10 @@ impl Presentation for Whole<'_> {
             drawn: self.drawn,
         };
         let mut page = Vec::new(alloc);
-        begin_page(&mut page, words::TITLE)?;
+        let title = title_of(self.drawn.file, words::TITLE);
+        begin_page(&mut page, title)?;
         append_styles(&mut page)?;
-        begin_content(&mut page, words::TITLE)?;
+        begin_content(&mut page, title)?;
         append_hint(
             &mut page,
             self.drawn.selection.judges_no_notes(keys.as_slice()),

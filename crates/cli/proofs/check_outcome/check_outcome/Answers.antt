@@ -19,7 +19,7 @@ returns-in_err-checked-clause-stops g c =
 pub returns-clause-made : goal.returns-clause-made
 returns-clause-made g c =
     let are = c.in_ok-checked.ensures in
-    let lawful = c.halls-halls.ensures.lawful in
+    let lawful = c.attest.ensures in
     let halls = c.args.histories.now.halls in
     let verdicts = c.in_ok-checked.checked.items in
     record {

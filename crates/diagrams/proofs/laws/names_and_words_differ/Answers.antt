@@ -5,11 +5,9 @@ pub returns : goal.returns
 returns c = record {
   classes = refl;
   legend = refl;
-  commands = refl;
   phrases = refl;
   classes_there = refl;
   legend_there = refl;
-  commands_there = refl;
   phrases_there = refl;
   others_there = refl;
 }

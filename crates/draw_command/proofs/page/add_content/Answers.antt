@@ -1,5 +1,5 @@
 -- What stands above the table, the table, what stands below it, and the sections.
-use Rattle.std.proofs.Common.{ℕ, ◌≡◌, ◌≤◌, ◌++◌, List, length, map, take, ap, subst, sym, ◌∙◌, arith}
+use Rattle.std.proofs.Common.{ℕ, Bool, nat_lt, ◌≡◌, ◌≤◌, ◌++◌, List, length, map, take, ap, subst, sym, ◌∙◌, arith}
 use Rattle.std.specs.Borrow.{Bor}
 use Rattle.std.proofs.lemmas.List.{length-map, take-map}
 use Rattle.std.proofs.lemmas.List.Elements.{All-same, All-take}
@@ -9,9 +9,10 @@ use Rattle.judged_keys.specs.Judgements.{Judgement, judgement_of}
 use Rattle.judged_keys.specs.declared.finding.JudgedKey.{JudgedKey}
 use Rattle.draw_command.specs.Drawings.{IsDrawable}
 use Rattle.draw_command.specs.Making.{Adds}
-use Rattle.draw_command.specs.Pages.{IsEach, IsSectionOf, IsTableOf, below_table, front_markup}
+use Rattle.draw_command.specs.Pages.{IsEach, IsSectionOf, IsTableOf, below_table, front_markup, have_notes}
 use Rattle.draw_command.specs.Pictured.{ArePictured}
-use Rattle.draw_command.proofs.Framing.{content_added, first_ones}
+use Rattle.cli.specs.Hints.{has_note}
+use Rattle.draw_command.proofs.Framing.{any_map, content_added, first_ones}
 use Rattle.draw_command.proofs.page.add_content.Goals as goal
 
 pub add_sections-requires-clause-drawable : goal.add_sections-requires-clause-drawable
@@ -36,15 +37,17 @@ returns c =
     let headed = c.append_front.new.page.items in
     let tabled = c.add_table.new.page.items in
     let under = c.append_below.new.page.items in
-    let Sections = IsSectionOf task.numbered.now task.drawn in
+    let tagged = have_notes keys in
+    let Sections = IsSectionOf task.numbered.now task.drawn (nat_lt 0 refused) in
     let same : map judgement_of slice ≡ keys = ap (map judgement_of) c.as_slice-keys.ensures.value in
     let count : length slice ≡ length keys = ap length c.as_slice-keys.ensures.value ∙ sym (length-map items judgement_of) in
     let cut = first_ones judgement_of slice _ n (ap (λ (k : ℕ). take k slice) c.min.ensures) ∙ ap (λ (js : List Judgement). take n js) same in
     on_ok_weaker c.add_sections.result (λ drawn.
-    let w = content_added (front_markup (length keys) refused missing) (below_table n (length keys) refused) (IsTableOf n keys) (IsEach Sections 0 (take n keys)) old headed tabled under c.add_sections.new.page.items
+    let w = content_added (front_markup (length keys) refused missing) (below_table n (length keys) refused tagged) (IsTableOf n keys) (IsEach Sections 0 (take n keys)) old headed tabled under c.add_sections.new.page.items
     (c.in_ok-append_front.ensures ∙ ap (λ (m : ℕ). old ++ rendered (front_markup m refused missing)) (sym (length-map items judgement_of)))
     (subst (λ (js : List Judgement). Adds (IsTableOf n js) headed tabled) same c.in_ok-add_table.ensures)
-    (c.in_ok-append_below.ensures ∙ ap (λ (m : ℕ). tabled ++ rendered (below_table n m refused)) count)
+    (c.in_ok-append_below.ensures ∙ ap (λ (m : ℕ). tabled ++ rendered (below_table n m refused c.have_notes-tagged.result)) count
+    ∙ ap (λ (b : Bool). tabled ++ rendered (below_table n (length keys) refused b)) (c.have_notes-tagged.ensures ∙ any_map judgement_of (λ (key : Judgement). has_note key.one.part) slice ∙ ap have_notes same))
     (subst (λ (js : List Judgement). Adds (IsEach Sections 0 js) under c.add_sections.new.page.items) cut drawn) in (
       w.0,
       record {

@@ -1,11 +1,10 @@
-use Rattle.std.proofs.Common.{ℕ, ◌∙◌, ◌-◌, ◌++◌, [], List, length-append, length, take, drop, refl, sym, ap, arith, subst}
+use Rattle.std.proofs.Common.{ℕ, ◌∙◌, ◌++◌, [], List, length-append, length, take, drop, refl, sym, ap, arith, subst}
 use Rattle.std.specs.Io.KnownBytes.{Consumes}
 use Rattle.std.specs.Prelude.{true, false, Bool}
 use Rattle.std.proofs.lemmas.List.{length-take}
 use Rattle.counted_devices.specs.DeviceStates.{states}
-use Rattle.counted_devices.specs.Deliveries.{Delivers}
 use Rattle.counted_devices.proofs.Consuming.{Consumes-none}
-use Rattle.fault_details.specs.FoundLines.{Ends, IsLineOf, IsScan}
+use Rattle.fault_details.specs.FoundLines.{Ends, IsScan}
 use Rattle.fault_details.proofs.Scanning.{block_front, fed_on, finds_ended, finds_last, room_left, scans_more, scans_no_more}
 use Rattle.fault_details.proofs.found_line.find_line.Goals as goal
 

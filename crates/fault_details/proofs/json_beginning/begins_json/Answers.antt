@@ -1,4 +1,4 @@
-use Rattle.std.proofs.Common.{ℕ, List, ◌++◌, ◌≡◌, true, take, ap, ◌∙◌}
+use Rattle.std.proofs.Common.{◌≡◌, true, take}
 use Rattle.std.proofs.lemmas.Result.{IfOk-weaker}
 use Rattle.row_members.specs.Values.{HasValue}
 use Rattle.fault_details.specs.Beginnings.{BeginsJson}

@@ -25,7 +25,7 @@ returns c =
         told = c.in_ok-scene.ensures.trace;
         numbered = numbered;
         numbered_is = c.in_ok-numbered.ensures;
-        is = subst (λ (trace : List ℕ). IsPageOf scene trace numbered c.args.drawn made.0) c.as_slice.ensures.value made.1;
+        is = subst (λ (trace : List ℕ). IsPageOf scene c.args.words.now trace numbered c.args.drawn made.0) c.as_slice.ensures.value made.1;
       },
       made.2,
     )) c.page_of.ensures

@@ -1,6 +1,9 @@
 -- The halls are drawn in turn, and what is left are the keys without calls.
 use Rattle.std.proofs.Common.{◌<◌, ◌≤◌, ap, drop, map, take, ◌∙◌, length, arith}
+use Rattle.parallel_keys.specs.CheckedKeys.{CheckedKey}
 use Rattle.parallel_keys.specs.KeysToCheck.{what_of}
+use Rattle.cli.specs.Hints.{has_note}
+use Rattle.draw_command.proofs.Framing.{any_map}
 use Rattle.whole_pictures.proofs.Halls.{begun, content_added, enough, of_hall, one_hall}
 use Rattle.whole_pictures.proofs.page.add_halls.Goals as goal
 
@@ -60,5 +63,5 @@ returns c =
     rw c.with.ensures
     (content_added task.numbered.now task.drawn (map what_of keys) n (map what_of (drop c.loop-number.from keys))
     (map what_of c.split_at-2.result.1.now) c.loop-number.found c.in_ok-together-2.together c.args.page.now.items c.append_legend.new.page.items
-    c.loop-number.page.items c.add_others.new.page.items all c.in_ok-append_legend.ensures c.loop-number.invariant.way
+    c.loop-number.page.items c.add_others.new.page.items all (rw (c.have_notes-tagged.ensures ∙ any_map what_of (λ (one : CheckedKey). has_note one.part) keys) at c.in_ok-append_legend.ensures) c.loop-number.invariant.way
     (ap (map what_of) c.split_at-2.ensures.back) c.in_ok-together-2.ensures.found c.in_ok-together-2.ensures.added)

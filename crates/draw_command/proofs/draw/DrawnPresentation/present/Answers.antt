@@ -3,7 +3,7 @@ use Rattle.std.proofs.Common.{map}
 use Rattle.parallel_keys.specs.KeysToCheck.{what_of}
 use Rattle.judged_keys.specs.Notes.{judges_no_notes}
 use Rattle.draw_command.specs.HistoryPictures.{IsJudgedContent}
-use Rattle.draw_command.specs.Pages.{IsBelowHint, hint_markup, styles_markup}
+use Rattle.draw_command.specs.Pages.{IsBelowHint, hint_markup, styles_markup, title_words}
 use Rattle.draw_command.specs.declared.words.TheConstants.{TITLE}
 use Rattle.draw_command.proofs.Adding.{adds_after}
 use Rattle.draw_command.proofs.Framing.{page_framed}
@@ -16,6 +16,6 @@ returns-clause-made c =
     let Judged = IsJudgedContent c.args.numbered.now c.args.self.now all c.in_ok-found.found in
     let hint = rw (c.judges_no_notes.ensures, c.as_slice.ensures.value) at c.in_ok-append_hint.ensures in
     let content = adds_after Judged (hint_markup hinted) c.begin_content.new.page.items c.append_hint.new.page.items c.add_keys.new.page.items hint c.in_ok-found.ensures in
-    let page = page_framed TITLE.now styles_markup (IsBelowHint hinted Judged) _ c.begin_page.new.page.items c.append_styles.new.page.items
-    c.begin_content.new.page.items c.add_keys.new.page.items c.end_page.new.page.items c.new-page.ensures.items c.in_ok-begin_page.ensures c.in_ok-append_styles.ensures c.in_ok-begin_content.ensures content c.in_ok-end_page.ensures in
+    let page = page_framed (title_words c.args.self.now.file.now TITLE.now) styles_markup (IsBelowHint hinted Judged) _ c.begin_page.new.page.items c.append_styles.new.page.items
+    c.begin_content.new.page.items c.add_keys.new.page.items c.end_page.new.page.items c.new-page.ensures.items (rw c.title_of-title.ensures at c.in_ok-begin_page.ensures) c.in_ok-append_styles.ensures (rw c.title_of-title.ensures at c.in_ok-begin_content.ensures) content c.in_ok-end_page.ensures in
     record { page = page.0; page_is = rw c.of_text.ensures.found page.1; text = rw c.of_text.ensures.text page.2; quiet = c.of_text.ensures.notes }

@@ -15,5 +15,6 @@ returns-clause-made c =
     c.append_hint.new.page.items c.add_halls.new.page.items) c.as_slice-2.ensures.value c.in_ok-found.ensures in
     whole_page whole numbered (map what_of c.args.keys.items) c.in_ok-found.found c.of_text.result _ c.begin_page.new.page.items
     c.append_styles.new.page.items c.begin_content.new.page.items c.append_hint.new.page.items c.add_halls.new.page.items c.end_page.new.page.items
-    c.new-page.ensures.items c.in_ok-begin_page.ensures c.in_ok-append_styles.ensures c.in_ok-begin_content.ensures hint content
+    c.new-page.ensures.items (rw c.title_of-title.ensures at c.in_ok-begin_page.ensures) c.in_ok-append_styles.ensures
+    (rw c.title_of-title.ensures at c.in_ok-begin_content.ensures) hint content
     c.in_ok-end_page.ensures c.of_text.ensures.found (rw c.of_text.ensures.text refl) c.of_text.ensures.notes

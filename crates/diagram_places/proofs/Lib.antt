@@ -1,0 +1,4 @@
+pub mod Counts
+mod Readable
+mod Hiding
+mod Cutting

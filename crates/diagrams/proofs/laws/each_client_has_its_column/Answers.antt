@@ -1,9 +1,0 @@
-use Rattle.std.proofs.Common.{ℕ, ap}
-use Rattle.diagrams.specs.Layout.{across}
-use Rattle.diagrams.proofs.Counts.{names_before}
-use Rattle.diagrams.proofs.laws.each_client_has_its_column.Goals as goal
-
-pub returns : goal.returns
-returns c = λ scene rises. record {
-  client = λ i name start at. ap (λ (column : ℕ). across start column) (names_before scene.clients.items rises i name at);
-}

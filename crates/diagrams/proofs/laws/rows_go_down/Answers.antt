@@ -1,6 +1,0 @@
-use Rattle.std.proofs.Common.{arith}
-use Rattle.diagrams.proofs.Readable.{rows_down}
-use Rattle.diagrams.proofs.laws.rows_go_down.Goals as goal
-
-pub returns : goal.returns
-returns c = record { rows = rows_down; height = omega arith }

@@ -1,0 +1,5 @@
+pub mod Pieces
+pub mod ToldCalls
+pub mod Findings
+pub mod Objects
+pub mod Counts
