@@ -20,7 +20,7 @@ TOP = os.path.join(os.path.dirname(os.path.abspath(__file__)), "..")
 ROWS = "crates/test_commands/data"
 COMPARED = ["crates", "docs", "examples", "README.md"]
 ON_HISTORIES = [["justify", "h"], ["justify", "--unchecked", "h"], ["explain", "h"], ["draw", "h"], ["decide", "h"]]
-ON_HISTORIES += [["decide", "--json", "h"]]
+ON_HISTORIES += [["decide", "--json", "h"], ["monitor", "h"], ["monitor", "--all", "--json", "h"]]
 ON_BOTH = [["check", "h", "o"], ["check", "--json", "h", "o"], ["explain", "h", "o"], ["draw", "h", "o"]]
 ON_SCRIPTS = [["simulate", "s"], ["trace", "s"], ["trace", "--draw", "s"], ["explain", "s"]]
 # With one caller the record of a run is the same each time.

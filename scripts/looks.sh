@@ -14,6 +14,8 @@ checks=(
   "python3 scripts/explain_rows.py $abd"
   "python3 scripts/draw_rows.py $abd"
   "python3 scripts/verbs.py $abd"
+  "python3 scripts/monitor_pipes.py $abd"
+  "python3 scripts/monitor_prefixes.py $abd 200"
   "python3 scripts/broken_bytes.py $abd"
   "python3 scripts/pages.py $abd 20"
   "scripts/pictures.sh $abd --check"

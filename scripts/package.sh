@@ -2,16 +2,16 @@
 # Makes abd_VERSION_amd64.deb and abd-VERSION-linux-x86_64.tar.gz in FOLDER (release/), with a file of checksums, in the place of older ones:
 #
 #   scripts/package.sh [FOLDER]             runs the gate first, without its comparison with the package that this makes
-#   scripts/package.sh --no-gate [FOLDER]   only proves and builds the program, as scripts/verify_release.sh does
+#   scripts/package.sh --no-looks [FOLDER]  runs `rt ci` alone, without what looks at the program, as scripts/verify_release.sh does
 #
 # Nothing unproved is packed. Made twice from one commit by one kit the files are the same, byte for byte: names are sorted, owners are 0,
 # times are the commit's, and gzip writes no name and no time.
 set -euo pipefail
 cd "$(dirname "$0")/.."
 top=$PWD
-is_gated=yes
-if [ "${1:-}" = --no-gate ]; then
-  is_gated=no
+is_looked_at=yes
+if [ "${1:-}" = --no-looks ]; then
+  is_looked_at=no
   shift
 fi
 to=$(mkdir -p "${1:-release}" && cd "${1:-release}" && pwd)
@@ -20,14 +20,13 @@ if [ -n "$(git status --porcelain)" ]; then
   exit 1
 fi
 program=$top/crates/abd/out/abd
-gate="not run"
-if [ "$is_gated" = yes ]; then
-  if ! gate=$(.ci/run --without-release | tee /dev/stderr | tail -1); then
-    echo "package: the gate failed" >&2
-    exit 1
-  fi
-else
-  (cd crates/abd && rt run -- --version)
+gate=(rt ci)
+if [ "$is_looked_at" = yes ]; then
+  gate=(.ci/run --without-release)
+fi
+if ! passed=$("${gate[@]}" | tee /dev/stderr | tail -1); then
+  echo "package: the gate failed" >&2
+  exit 1
 fi
 version=$("$program" --version | cut -d' ' -f2)
 export SOURCE_DATE_EPOCH
@@ -94,7 +93,7 @@ dpkg-deb --root-owner-group -Zxz --build "$deb" "$to/abd_${version}_amd64.deb" >
 {
   echo "commit $(git log -1 --format=%H)"
   echo "kit $(rt version)"
-  echo "gate $gate"
+  echo "gate $passed"
   echo "needs the C library $libc or later, and nothing else"
   cd "$to"
   sha256sum "abd_${version}_amd64.deb" "$name.tar.gz"

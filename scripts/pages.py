@@ -8,7 +8,8 @@ Of each key it compares the calls, their clients and columns, the rows where the
 all keys together (`--whole`), whose one order it makes of the keys' orders, and on the page of a script, whose messages it compares with
 the trace. By values it compares the points of an atomic key with the order that `abd justify --by values` writes, which has to be one, and
 the red calls of any other with those that `abd decide` names. A text stays a text, no element is a script, each link has its place on the
-page, and a page has one title and leaves out no level of headings.
+page, and a page has one title and leaves out no level of headings. Boxes that scroll have a role, a name and the focus, and tables a caption
+and headings of columns and of rows.
 """
 
 import json
@@ -199,6 +200,34 @@ def check_headings(root):
     expect(all(below <= above + 1 for above, below in zip(levels, levels[1:])), "headings", levels)
 
 
+def on_one_line(text):
+    """The text as an attribute has it: XML reads each end of a line there as a blank."""
+    return re.sub(r"\s", " ", text)
+
+
+def check_boxes(root):
+    """Each box that scrolls is a region with a name and can have the focus; a picture's and a table's say on which keys the calls are."""
+    boxes = {kind: elements(root, "div", kind) for kind in ("picture", "rows", "messages")}
+    for it in sum(boxes.values(), []):
+        expect(it.get("role") == "region" and it.get("aria-label") and it.get("tabindex") == "0", "box", it.attrib)
+    for it in boxes["picture"]:
+        expect(it.get("aria-label") == on_one_line(it.findall("svg")[-1].find("title").text), "name of a picture", it.get("aria-label"))
+    for it in boxes["rows"]:
+        words = on_one_line(it.find("table").find("caption").text)
+        expect(it.get("aria-label") == "Table of the" + words.removeprefix("The"), "name of a table", it.get("aria-label"))
+
+
+def check_tables(root):
+    """Each table has a caption, headings of its columns, and in each row below a heading of the row."""
+    for table in root.iter("table"):
+        expect(table[0].tag == "caption" and table[0].text, "caption of", [it.tag for it in table])
+        first, *rows = table.iter("tr")
+        expect(all(it.tag == "th" and it.get("scope") == "col" for it in first), "headings of columns", [it.attrib for it in first])
+        for row in rows:
+            scopes = [it.get("scope") for it in row if it.tag == "th"]
+            expect(row[0].tag == "th" and scopes == ["row"], "heading of a row", [it.tag for it in row])
+
+
 def read_page(text):
     """The page's elements; none of them can run or fetch something."""
     first, _, rest = text.partition("\n")
@@ -213,6 +242,8 @@ def read_page(text):
     for it in root.iter("a"):
         expect(it.get("href")[1:] in places, "link", it.get("href"))
     check_headings(root)
+    check_tables(root)
+    check_boxes(root)
     return root
 
 
@@ -258,6 +289,8 @@ def check_whole_values(abd, history):
     refused = [it for it in decided if it["verdict"] == "not atomic"]
     expect(section.find("h2").text == "all keys: a key is " + ("refused" if refused else "undecided"), "heading", section.find("h2").text)
     expect(red_calls(section) == (set(refused[0]["calls"]) if refused else set()), "red calls of all keys")
+    counts = [it.text for it in elements(section, "p", "sum")]
+    expect([re.match(r"Keys refused: (\d+)\.", it).group(1) for it in counts] == [str(len(refused))] * bool(refused), "refused keys", counts)
     expect(not elements(section, "circle"), "points of all keys")
 
 

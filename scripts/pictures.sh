@@ -1,7 +1,7 @@
 #!/usr/bin/env bash
 # Makes the histories and the pictures of examples/ anew, with the built program:
 #   scripts/pictures.sh ABD           writes examples/NAME.history of each script, examples/pictures/NAME.html of each history, and
-#                                     examples/pictures/NAME.messages.html of each script
+#                                     examples/pictures/NAME.messages.html of each script; and of each page its first picture, NAME.svg
 #   scripts/pictures.sh ABD --check   says which of these files aren't what ABD makes
 set -eu
 abd=$(realpath "$1")
@@ -21,8 +21,10 @@ for history in "$made"/*.history; do
   # A page names the file as it was given.
   (cd "$made" && "$abd" draw "$name.history") > "$made/pictures/$name.html" || [ $? -eq 1 ]
 done
-python3 ../scripts/picture_of.py "$made/pictures/skipped_write_back.html" > "$made/pictures/skipped_write_back.svg"
 "$abd" draw two_calls.history two_calls_refused.orders > "$made/pictures/two_calls_refused.html" || [ $? -eq 1 ]
+for page in "$made"/pictures/*.html; do
+  python3 ../scripts/picture_of.py "$page" > "${page%.html}.svg"
+done
 if [ "${2:-}" = --check ]; then
   diff -rq "$made" . | grep -v '^Only in \.' && exit 1
   exit 0

@@ -8,10 +8,10 @@ their time, so that many are under way at once. Each run has to end within 10 se
 docs/FORMATS.md names. What is said of one refused allocation below holds there too, but for test_store: any row may come out otherwise,
 and the lines may end.
 
-- abd: a check, an explain and a draw with orders and one each without, two decides, a draw by values, two draws of all keys together, a
+- abd: a check, an explain and a draw with orders and one each without, two decides, three monitors, a draw by values, two draws of all keys together, a
   justify of each kind, a simulate, a trace and its page. With a refusal a run has the very answer of a run without one, or status 4, nothing
-  on standard output and one line on standard error, which names memory and a line of the file, or the number after its last if all lines
-  were read. The first line that is named is line 1, and a later allocation never names an earlier line.
+  on standard output (of a monitor, a beginning of the answer) and one line on standard error, which names memory and a line of the file, or
+  the number after its last if all lines were read. The first line that is named is line 1, and a later allocation never names an earlier line.
 - abd run: with a refusal it writes a history that justify and check say yes of, and of its callers no more is said than that a call
   was refused, or that one was unavailable (a replica's thread may have met the refusal); or status 4, nothing on standard output, and
   after such lines one that names memory or a thread.
@@ -59,7 +59,7 @@ WANT = (
     f"|standard error: ({beginning('no memory')}|{beginning('NAME: line LINE: fault 14 memory')}"
     f"|{beginning('NAME: line LINE: script fault 8 memory')})$"
 )
-ROWS = ["test_commands", "test_protocol", "test_records", "test_runs"]
+ROWS = ["test_commands", "test_monitor", "test_protocol", "test_records", "test_runs"]
 # The tests that are gone over, by what their names have, and whether all allocations of each are refused.
 TESTS = {"test_resources": ("refused_growth", True), "test_twin": ("both_worlds", False)}
 
@@ -140,6 +140,9 @@ COMMANDS = [
     ["explain", "new_then_old.history"],
     ["decide", "skipped_write_back.history"],
     ["decide", "new_then_old.history", "--json"],
+    ["monitor", "two_calls.history"],
+    ["monitor", "new_then_old.history", "--json"],
+    ["monitor", "skipped_write_back.history", "--all"],
     ["draw", "two_calls.history", "two_calls_refused.orders"],
     ["draw", "new_then_old.history"],
     ["draw", "--by", "values", "skipped_write_back.history"],
@@ -157,13 +160,18 @@ def commands(library, top):
     """The commands that read files."""
     folder = f"{top}/examples"
     runs = Runs(library, f"{top}/crates/abd/out/abd", folder, 10)
+
+    def is_beginning(words, out):
+        """Whether the command writes what it finds before it ends, and that is a beginning of its answer."""
+        return words[0] == "monitor" and runs.run(words, 0)[2].startswith(out)
+
     for words in COMMANDS:
         # each file that was named, and its lines, as the refused growth came later and later
         named = {}
 
         def judge(at, status, out, errors):
             found = re.fullmatch(r"abd: (?:(\S+): line (\d+): (?:fault 14|script fault 8) memory|no memory)\n", errors)
-            if status != 4 or out or not found:
+            if status != 4 or not found or out and not is_beginning(words, out):
                 raise Wrong(f"abd {' '.join(words)}, growth {at}: status {status}, {out!r}, {errors!r}")
             if found[1]:
                 if found[1] not in words or not 1 <= int(found[2]) <= lines_of(f"{folder}/{found[1]}") + 1:
@@ -273,7 +281,7 @@ def rows(library, top, name):
                     lines = out.splitlines()
                     other = next((k for k, line in enumerate(lines) if wanted[k : k + 1] != [line]), len(lines))
                     # what a command wrote before it wanted memory may stand before that
-                    told = lines[other:] if name in ("test_commands", "test_runs") else lines[other : other + 4]
+                    told = lines[other:] if name in ("test_commands", "test_monitor", "test_runs") else lines[other : other + 4]
                     wants = not told or re.search(WANT, "\n".join(told))
                     if status == 0 or not wants:
                         raise Wrong(f"{name}, {data}, {block.splitlines()[0]!r}, growth {at}: status {status}, {out!r}, {errors!r}")

@@ -30,6 +30,10 @@ FILES = {
     "late.history": HISTORY + WRITE + DONE + READ + '{"call":1,"row":"respond","value":null}\n',
     "doubt.history": HISTORY + WRITE + DONE + AGAIN + '{"call":1,"row":"respond"}\n' + READ.replace(":1,", ":2,", 1)
     + '{"call":2,"row":"respond","value":"a"}\n',
+    "halls.history": '{"abd":"history","ask":1,"halls":1,"put":1,"version":2,"votes":[1]}\n',
+    "twice.history": HISTORY + WRITE + AGAIN + READ.replace('"call":1,"client":2', '"call":2,"client":3')
+    + '{"call":2,"row":"respond","value":"a"}\n',
+    "waiting.history": HISTORY + READ.replace('"call":1', '"call":0') + NOTE + '{"call":0,"row":"respond","value":null}\n',
     "good.orders": ORDERS + '{"key":"x","order":[0]}\n',
     "refused.orders": ORDERS + '{"key":"x","order":[]}\n',
     "bad.orders": ORDERS + "{\n",
@@ -39,12 +43,13 @@ FILES = {
 }
 FULL = "abd: output failed"
 
-# the words; the status; whether standard output is full; what standard error says: nothing, or a line that begins so
+# the words; the status; what standard error says: nothing, or a line that begins so; whether standard output is full; the file that is
+# standard input
 CASES = []
 
 
-def add(status, words, errors="", full=False):
-    CASES.append((words, status, errors, full))
+def add(status, words, errors="", full=False, source=None):
+    CASES.append((words, status, errors, full, source))
 
 
 def add_files(command, options=""):
@@ -62,7 +67,37 @@ def add_files(command, options=""):
     add(4, f"{command} good.{kind}{options}", FULL, full=True)
 
 
+def add_monitor():
+    """The runs of `monitor`, each on a file and on the same file as standard input."""
+    for options in ("", " --json", " --all", " --all --json"):
+        for name, status, errors in (
+            ("good.history", 0, ""),
+            ("doubt.history", 0, ""),  # the first write was overwritten by the second
+            ("late.history", 1, ""),
+            ("twice.history", 5, ""),
+            ("bad.history", 3, "line 2: fault 1 not JSON"),
+            ("busy.history", 3, "line 3: fault 7 client busy"),
+            ("cut.history", 3, "line 3: fault 1 not JSON"),
+            ("wide.history", 3, "line 2: fault 11 line too long"),
+            ("halls.history", 3, "line 1: fault 3 version"),
+            ("good.orders", 3, "line 1: fault 2 no header"),
+            (".", 4, "line 1: fault 13 device"),
+        ):
+            add(status, f"monitor {name}{options}", errors and f"abd: {name}: {errors}")
+            add(status, f"monitor{options}", errors and f"abd: standard input: {errors}", source=name)
+        for name in ("good.history", "late.history", "twice.history"):
+            add(4, f"monitor {name}{options}", FULL, full=True)
+            add(4, f"monitor{options}", FULL, full=True, source=name)
+        add(0, f"monitor waiting.history{options} --give-up 2")
+        add(5, f"monitor waiting.history{options} --give-up 1")
+    add(3, "monitor missing", "abd: missing: cannot open")
+    add(1, "monitor --give-up 4294967295 --all --json late.history")
+    for words in ("--give-up 0", "--give-up 4294967296", "--give-up", "good.history more", "--key x", "--frob"):
+        add(2, f"monitor {words}", "error: ", source="good.history")
+
+
 def add_all():
+    add_monitor()
     for command in ("justify", "simulate", "decide", "explain", "draw", "trace"):
         add_files(command)
     add_files("trace", " --draw")
@@ -122,7 +157,7 @@ def add_all():
     add(2, "run --ask 2", "abd: ")
     add(2, "run good.script", "error: ")
     add(4, "run --callers 1 --calls 2", FULL, full=True)
-    commands = ("check", "decide", "draw", "explain", "justify", "run", "simulate", "trace")
+    commands = ("check", "decide", "draw", "explain", "justify", "monitor", "run", "simulate", "trace")
     for words in ("--help", "--version", *[f"{command} --help" for command in commands], *[f"help {command}" for command in commands]):
         add(0, words)
         add(4, words, FULL, full=True)
@@ -131,16 +166,18 @@ def add_all():
     add(2, b"check \xff good.orders", "abd: the arguments aren't text; see abd --help")
 
 
-def run(abd, place, words, full):
-    words = words.split()
-    if not full:
-        return subprocess.run([abd, *words], cwd=place, capture_output=True)
-    with open("/dev/full", "wb") as device:
-        return subprocess.run([abd, *words], cwd=place, stdout=device, stderr=subprocess.PIPE)
+def run(abd, place, words, full, source):
+    with contextlib.ExitStack() as opened:
+        given = os.open(os.path.join(place, source), os.O_RDONLY) if source else subprocess.DEVNULL
+        if source:
+            opened.callback(os.close, given)
+        out = opened.enter_context(open("/dev/full", "wb")) if full else subprocess.PIPE
+        return subprocess.run([abd, *words.split()], cwd=place, stdin=given, stdout=out, stderr=subprocess.PIPE)
 
 
-def shown(words):
-    return words if isinstance(words, str) else words.decode(errors="replace")
+def shown(words, full, source):
+    words = words if isinstance(words, str) else words.decode(errors="replace")
+    return f"abd {words}{f' < {source}' if source else ''}{' > /dev/full' if full else ''}"
 
 
 def wrongs(ran, status, errors, full):
@@ -316,11 +353,10 @@ def main():
         for name, text in FILES.items():
             with open(os.path.join(place, name), "w", encoding="utf-8") as file:
                 file.write(text)
-        for words, status, errors, full in CASES:
-            for wrong in wrongs(run(abd, place, words, full), status, errors, full):
+        for words, status, errors, full, source in CASES:
+            for wrong in wrongs(run(abd, place, words, full, source), status, errors, full):
                 bad = True
-                device = " > /dev/full" if full else ""
-                print(f"abd {shown(words)}{device}: {wrong}")
+                print(f"{shown(words, full, source)}: {wrong}")
         for wrongs_of in (explained_otherwise, two_pipes_wrongs, long_wrongs, replaced_wrongs, changed_wrongs):
             for wrong in wrongs_of(abd, place):
                 bad = True

@@ -3,8 +3,8 @@
 #
 #   scripts/verify_release.sh
 #
-# It proves the program from nothing, which takes most of an hour. Another kit builds other bytes: it says so and ends with 1, as it does
-# for any byte that differs.
+# It proves all by `rt ci`, which takes an hour from nothing, and minutes where this machine has proved that commit before. Another kit
+# builds other bytes: it says so and ends with 1, as it does for any byte that differs.
 set -euo pipefail
 cd "$(dirname "$0")/.."
 top=$PWD
@@ -20,7 +20,7 @@ room=$(mktemp -d)
 trap 'rm -rf "$room"' EXIT
 git clone -q "$top" "$room/abd"
 git -C "$room/abd" checkout -q "$commit"
-(cd "$room/abd" && scripts/package.sh --no-gate "$room/made" > "$room/log" 2>&1) || { tail -20 "$room/log" >&2; exit 1; }
+(cd "$room/abd" && scripts/package.sh --no-looks "$room/made" > "$room/log" 2>&1) || { tail -20 "$room/log" >&2; exit 1; }
 status=0
 sed -nE 's/^[0-9a-f]{64}  //p' "$sums" | while read -r name; do
   cmp "release/$name" "$room/made/$name"

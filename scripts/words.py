@@ -9,10 +9,10 @@ import subprocess
 import sys
 
 PAGES = {
-    "docs/abd.1": r"(?:Fl Fl |^\.Nm\n\.Cm )([a-z]+)",
-    "docs/completions/abd.bash": r"--([a-z]+)|(?<=[ \"])(check|decide|draw|explain|justify|simulate|trace|run)(?=[ \"])",
-    "docs/completions/_abd": r"--([a-z]+)\[|'([a-z]+):",
-    "docs/completions/abd.fish": r"^complete.* -l ([a-z]+)|-f -a ([a-z]+)",
+    "docs/abd.1": r"(?:Fl Fl |^\.Nm\n\.Cm )([a-z-]+)",
+    "docs/completions/abd.bash": r"--([a-z-]+)|(?<=[ \"])(check|decide|draw|explain|justify|monitor|simulate|trace|run)(?=[ \"])",
+    "docs/completions/_abd": r"--([a-z-]+)\[|'([a-z]+):",
+    "docs/completions/abd.fish": r"^complete.* -l ([a-z-]+)|-f -a ([a-z-]+)",
 }
 
 
@@ -25,10 +25,10 @@ def main():
     abd = sys.argv[1]
     help_text = told(abd, [])
     commands = re.findall(r"^  ([a-z]+) ", help_text.split("Commands:")[1].split("Options:")[0], re.M)
-    wanted = {it for it in commands if it != "help"} | set(re.findall(r"--([a-z]+)", help_text.split("Options:")[1]))
+    wanted = {it for it in commands if it != "help"} | set(re.findall(r"--([a-z-]+)", help_text.split("Options:")[1]))
     for command in commands:
         if command != "help":
-            wanted |= set(re.findall(r"--([a-z]+)", told(abd, [command]).split("Options:")[1].split("\n\n")[0]))
+            wanted |= set(re.findall(r"--([a-z-]+)", told(abd, [command]).split("Options:")[1].split("\n\n")[0]))
     bad = False
     for page, pattern in PAGES.items():
         with open(page, encoding="utf-8") as file:
@@ -36,7 +36,7 @@ def main():
         for word in sorted(wanted - found):
             bad = True
             print(f"{page} lacks {word}")
-        for word in sorted(found - wanted - {"help", "check", "decide", "draw", "explain", "justify", "simulate", "trace", "run"}):
+        for word in sorted(found - wanted - {"help", "check", "decide", "draw", "explain", "justify", "monitor", "simulate", "trace", "run"}):
             bad = True
             print(f"{page} has {word}, which abd doesn't take")
     print("all words stand in each" if not bad else f"abd takes {' '.join(sorted(wanted))}")

@@ -8,6 +8,7 @@ Each call notes its tag, so `abd explain` says which rule of the algorithm a bug
 import argparse
 import queue
 import random
+import signal
 import sys
 import threading
 import time
@@ -109,6 +110,7 @@ def main():
     parser.add_argument("--bug", choices=BUGS)
     parser.add_argument("--calls", type=int, default=10_000, help="how many calls are made (10,000)")
     words = parser.parse_args()
+    signal.signal(signal.SIGPIPE, signal.SIG_DFL)  # who reads the record may end first, as `abd monitor` does
     replicas = [Replica(words.bug) for _ in range(REPLICAS)]
     recorder = Recorder(sys.stdout)
     clients = [Client(name, words.calls // CLIENTS, replicas, recorder, words.bug) for name in range(1, CLIENTS + 1)]

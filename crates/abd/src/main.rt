@@ -5,17 +5,20 @@ mod faults;
 mod names;
 mod opened;
 mod progress;
+mod watching;
 
 use crate::faults::{explain_history, explain_orders};
 use crate::names::FileName;
 use crate::opened::OpenedFile;
 use crate::progress::{Progress, SharedProgress};
+use crate::watching::Watching;
 use cli::{
     Counting, Failure, Source, Status, check_command, justify_command, simulate_command,
     usage_command,
 };
 use command_line::{
-    By, CheckAsked, Command, DecideAsked, DrawAsked, JustifyAsked, KeysAsked, RunAsked, command,
+    By, CheckAsked, Command, DecideAsked, DrawAsked, JustifyAsked, KeysAsked, MonitorAsked,
+    RunAsked, command,
 };
 use decide_command::Deciding;
 use draw_command::Drawn;
@@ -24,6 +27,7 @@ use judged_keys::{
     FaultyFile, Presentation, Selection, judge_history_command, judge_orders_command,
 };
 use justify_by_values::Justifying;
+use monitor_command::{Monitoring, monitor_command};
 use run_command::{NoWatch, Watch, run_command};
 use std::fs::File;
 use std::io::{ErrorKind, IsTerminal, Read, Stderr, Stdout};
@@ -258,6 +262,67 @@ fn justify(rt: &HostRuntime, threads: &(impl Threads + Sync), asked: &JustifyAsk
     }
 }
 
+/// Judges what the reader gives, of that name. Only a terminal is told how far it is.
+fn monitor_from<R: Read + Drop>(
+    rt: &HostRuntime,
+    threads: &(impl Threads + Sync),
+    name: &str,
+    reader: R,
+    asked: Monitoring,
+) -> Status {
+    let (mut out, mut errors) = outputs(rt);
+    let mut history = Source::new(name, Counting::new(reader));
+    let alloc = rt.alloc();
+    if rt.stderr().is_terminal() {
+        if let Ok(watch) = Watching::new(*rt) {
+            return monitor_command(
+                threads,
+                alloc,
+                &mut history,
+                asked,
+                &watch,
+                &mut out,
+                &mut errors,
+            );
+        }
+    }
+    let watch = monitor_command::NoWatch;
+    monitor_command(
+        threads,
+        alloc,
+        &mut history,
+        asked,
+        &watch,
+        &mut out,
+        &mut errors,
+    )
+}
+
+/// Judges the history in the file while it grows.
+fn monitor_file(
+    rt: &HostRuntime,
+    threads: &(impl Threads + Sync),
+    history: &str,
+    asked: Monitoring,
+) -> Status {
+    let Ok(name) = FileName::new(rt, history) else {
+        return fail(rt, Failure::Memory);
+    };
+    match open(rt, &name) {
+        Ok(file) => monitor_from(rt, threads, name.told(), file.reader.into_inner(), asked),
+        Err(status) => status,
+    }
+}
+
+/// Judges a history while it comes, from the file or from standard input.
+fn monitor(rt: &HostRuntime, threads: &(impl Threads + Sync), asked: &MonitorAsked<'_>) -> Status {
+    let monitoring = Monitoring::of(asked);
+    match asked.history {
+        Some(history) => monitor_file(rt, threads, history, monitoring),
+        None => monitor_from(rt, threads, "standard input", rt.stdin(), monitoring),
+    }
+}
+
 /// Simulates the script.
 fn simulate(rt: &HostRuntime, threads: &(impl Threads + Sync), script: &str) -> Status {
     on_file(rt, script, |mut script, out, errors| {
@@ -378,6 +443,7 @@ where
         Command::Draw(asked) => draw(rt, threads, asked),
         Command::Explain(asked) => explain(rt, threads, asked),
         Command::Justify(asked) => justify(rt, threads, asked),
+        Command::Monitor(asked) => monitor(rt, threads, asked),
         Command::Simulate { script } => simulate(rt, threads, script),
         Command::Trace { script, most } => trace(rt, threads, script, *most),
         Command::TracePage { script, most } => trace_page(rt, threads, script, *most),

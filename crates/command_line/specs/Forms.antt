@@ -34,6 +34,10 @@ shown_calls = between 1 most_shown
 abbrev pub any_number : NumberRange
 any_number = between 0 4294967295
 
+-- for how many rows a read may be pending
+abbrev pub give_up_range : NumberRange
+give_up_range = between 1 4294967295
+
 -- how many replicas a store has
 abbrev pub replicas_range : NumberRange
 replicas_range = between 1 replica_limit
@@ -119,6 +123,12 @@ abbrev pub justify_app : App
 justify_app = command_app (codes "justify")
     (history ∷ by ∷ word (codes "unchecked") None Nothing ∷ [])
 
+-- abd monitor [FILE] [--all] [--give-up N] [--json]
+abbrev pub monitor_app : App
+monitor_app = command_app (codes "monitor")
+    (word (codes "FILE") None FreeArgument ∷ word (codes "all") None Nothing
+    ∷ word (codes "give-up") (Some (codes "1000000")) (Number give_up_range) ∷ json ∷ [])
+
 -- abd simulate SCRIPT
 abbrev pub simulate_app : App
 simulate_app = command_app (codes "simulate") (word (codes "SCRIPT") None Argument ∷ [])
@@ -157,5 +167,6 @@ bare_app =
 -- abd with its commands
 abbrev pub abd_app : App
 abd_app = with_subcommand (with_subcommand (with_subcommand (with_subcommand (with_subcommand
-    (with_subcommand (with_subcommand (with_subcommand bare_app check_app.top) decide_app.top)
-    draw_app.top) explain_app.top) justify_app.top) simulate_app.top) trace_app.top) run_app.top
+    (with_subcommand (with_subcommand (with_subcommand (with_subcommand bare_app check_app.top)
+    decide_app.top) draw_app.top) explain_app.top) justify_app.top) monitor_app.top)
+    simulate_app.top) trace_app.top) run_app.top

@@ -8,7 +8,7 @@ use Rattle.clap.specs.declared.error.kind.ErrorKind.TheVariants.{DisplayHelp, Di
 use Rattle.clap.specs.declared.error.kind.ErrorKind.TheVariants.{OutOfMemory}
 use Rattle.load.specs.declared.ranges.NumberRange.{NumberRange}
 use Rattle.command_line.specs.Forms.{abd_app, any_number, default_most, most_shown, shown_calls}
-use Rattle.command_line.specs.Forms.{shown_keys, workers_range}
+use Rattle.command_line.specs.Forms.{give_up_range, shown_keys, workers_range}
 use Rattle.command_line.specs.Reading.{AsksNumber, GivesFlag, Names, texts_given}
 use Rattle.command_line.specs.RunWords.{AsksRun}
 use Rattle.command_line.specs.declared.asked.By.{By}
@@ -16,12 +16,13 @@ use Rattle.command_line.specs.declared.asked.By.TheVariants as by
 use Rattle.command_line.specs.declared.asked.CheckAsked.{CheckAsked}
 use Rattle.command_line.specs.declared.asked.Command.{Command}
 use Rattle.command_line.specs.declared.asked.Command.TheVariants.{Check, Decide, Draw, Explain}
-use Rattle.command_line.specs.declared.asked.Command.TheVariants.{Justify, Run, Simulate, Trace}
-use Rattle.command_line.specs.declared.asked.Command.TheVariants.{TracePage}
+use Rattle.command_line.specs.declared.asked.Command.TheVariants.{Justify, Monitor, Run, Simulate}
+use Rattle.command_line.specs.declared.asked.Command.TheVariants.{Trace, TracePage}
 use Rattle.command_line.specs.declared.asked.DecideAsked.{DecideAsked}
 use Rattle.command_line.specs.declared.asked.DrawAsked.{DrawAsked}
 use Rattle.command_line.specs.declared.asked.JustifyAsked.{JustifyAsked}
 use Rattle.command_line.specs.declared.asked.KeysAsked.{KeysAsked}
+use Rattle.command_line.specs.declared.asked.MonitorAsked.{MonitorAsked}
 use Rattle.command_line.specs.declared.asked.Usage.{Usage}
 use Rattle.command_line.specs.declared.asked.Usage.TheVariants as usage
 use Rattle.command_line.specs.declared.lines.Lines.{Lines}
@@ -101,6 +102,14 @@ pub record AsksDrawing (rows : List Row) (asked : DrawAsked) : Type 0 where
   pub around : AsksAround rows asked.around
   pub whole : AsksWhole rows asked.whole
 
+-- the words after `monitor` may name the file, say by `--all` whether other keys are judged on, by
+-- `--give-up` after how many rows a read is given up, and ask for that form
+pub record AsksMonitor (rows : List Row) (asked : MonitorAsked) : Type 0 where
+  pub history : first_of (codes "FILE") rows ≡ option_map (λ s. s.now) asked.history
+  pub all : IsTrue asked.all ↔ GivesFlag rows (codes "all")
+  pub give_up : AsksNumber rows (codes "give-up") give_up_range asked.give_up
+  pub form : AsksForm rows asked.form
+
 -- the words after `trace` name the script, and ask for so many lines of it
 pub record AsksTrace (rows : List Row) (script : Text) (most : ℕ) : Type 0 where
   pub told : GivesFlag rows (codes "draw") → ⊥
@@ -123,6 +132,7 @@ Makes rows (Decide asked) = AsksDecision rows asked
 Makes rows (Draw asked) = AsksDrawing rows asked
 Makes rows (Explain asked) = AsksKeys rows asked
 Makes rows (Justify asked) = AsksOrders rows asked
+Makes rows (Monitor asked) = AsksMonitor rows asked
 Makes rows (Simulate script) = first_of (codes "SCRIPT") rows ≡ Some script.now
 Makes rows (Trace script most) = AsksTrace rows script.now most
 Makes rows (TracePage script most) = AsksTracePage rows script.now most
@@ -135,6 +145,7 @@ name_of (Decide asked) = codes "decide"
 name_of (Draw asked) = codes "draw"
 name_of (Explain asked) = codes "explain"
 name_of (Justify asked) = codes "justify"
+name_of (Monitor asked) = codes "monitor"
 name_of (Simulate script) = codes "simulate"
 name_of (Trace script most) = codes "trace"
 name_of (TracePage script most) = codes "trace"

@@ -71,6 +71,19 @@ pub struct DrawAsked<'a> {
     pub whole: bool,
 }
 
+/// What the words of `abd monitor` ask for.
+#[derive(Clone, Copy, Debug, PartialEq, Eq)]
+pub struct MonitorAsked<'a> {
+    /// The file whose rows are judged; standard input if none is named.
+    pub history: Option<&'a str>,
+    /// Whether the other keys are judged on once a key is refused.
+    pub all: bool,
+    /// A read is given up once it was pending for more than so many rows.
+    pub give_up: u32,
+    /// The form of what is printed.
+    pub form: Lines,
+}
+
 /// Which histories `abd run` writes.
 #[derive(Clone, Copy, Debug, PartialEq, Eq)]
 pub enum Shown {
@@ -102,6 +115,8 @@ pub enum Command<'a> {
     Explain(KeysAsked<'a>),
     /// To make the orders of a history's keys, by its tags or by its values.
     Justify(JustifyAsked<'a>),
+    /// To judge the rows of a history while they come.
+    Monitor(MonitorAsked<'a>),
     /// To run a script and write the history of its run.
     Simulate { script: &'a str },
     /// To run a script and tell the steps of its run, in so many lines at most.

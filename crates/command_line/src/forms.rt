@@ -3,11 +3,12 @@ ghost use Rattle.std.specs.Prelude.{◌≡◌, IfOk};
 ghost use Rattle.clap.specs.Words.{app_of};
 ghost use Rattle.command_line.specs.CommandWords.{IsForm};
 ghost use Rattle.command_line.specs.Forms.{abd_app, bare_app, check_app, decide_app, draw_app};
-ghost use Rattle.command_line.specs.Forms.{explain_app, justify_app, run_app, simulate_app, trace_app};
+ghost use Rattle.command_line.specs.Forms.{explain_app, justify_app, monitor_app, run_app, simulate_app};
+ghost use Rattle.command_line.specs.Forms.{trace_app};
 
 use crate::defaults::{CALLS_WORD, KEYS_WORD};
 use crate::ranges::{
-    ANY_NUMBER, HALLS, REPLICAS, SHOWN_CALLS, SHOWN_HALL, SHOWN_KEYS, VOTES, WORKERS,
+    ANY_NUMBER, GIVE_UP, HALLS, REPLICAS, SHOWN_CALLS, SHOWN_HALL, SHOWN_KEYS, VOTES, WORKERS,
 };
 use crate::word::Takes::{Argument, FreeArgument, Nothing, Number, Text, Texts};
 use crate::word::{Word, command_of};
@@ -84,6 +85,25 @@ fn justify_words<'a>(alloc: Global) -> Result<Command<'a>, AllocError>
     command_of(alloc, "justify", help::JUSTIFY, &words)
 }
 
+/// `abd monitor [FILE] [--all] [--give-up N] [--json]`.
+fn monitor_words<'a>(alloc: Global) -> Result<Command<'a>, AllocError>
+    ensures { IfOk result (IsForm monitor_app) }
+{
+    let words = [
+        Word::new("FILE", FreeArgument, help::RECORD),
+        Word::new("all", Nothing, help::ALL_KEYS),
+        Word::option(
+            "give-up",
+            "N",
+            Some("1000000"),
+            Number(GIVE_UP),
+            help::GIVE_UP,
+        ),
+        Word::new("json", Nothing, help::OBJECTS),
+    ];
+    command_of(alloc, "monitor", help::MONITOR, &words)
+}
+
 /// `abd simulate SCRIPT`.
 fn simulate_words<'a>(alloc: Global) -> Result<Command<'a>, AllocError>
     ensures { IfOk result (IsForm simulate_app) }
@@ -143,6 +163,7 @@ pub(crate) fn abd_words<'a>(alloc: Global) -> Result<Command<'a>, AllocError>
     let words = words.subcommand(draw_words(alloc)?)?;
     let words = words.subcommand(explain_words(alloc)?)?;
     let words = words.subcommand(justify_words(alloc)?)?;
+    let words = words.subcommand(monitor_words(alloc)?)?;
     let words = words.subcommand(simulate_words(alloc)?)?;
     let words = words.subcommand(trace_words(alloc)?)?;
     words.subcommand(run_words(alloc)?)

@@ -152,6 +152,37 @@ undecided, and one is.\n\n\
 Examples:\n  abd justify examples/new_then_old.history\n  abd justify --by values docs/using/first_run.history",
 };
 
+/// Of the file of `abd monitor`.
+pub const RECORD: &str =
+    "The calls: a history of version 1, of any length; standard input if it isn't named";
+
+/// Of the option `--all`.
+pub const ALL_KEYS: &str =
+    "Go on with the other keys once a key is refused, to the end of the input";
+
+/// Of the option `--give-up`.
+pub const GIVE_UP: &str =
+    "For how many lines a read may be pending, 1 to 4,294,967,295; after them its answer isn't waited for";
+
+/// Of the option `--json` of `abd monitor`.
+pub const OBJECTS: &str =
+    "Print an object of JSON for each key that is refused or undecided, and one at the end";
+
+/// Of `abd monitor`.
+pub const MONITOR: CommandHelp = CommandHelp {
+    about: "Judge a history by its values while it is made, and say the first line at which it isn't atomic",
+    after: "\
+Reads a history of version 1, of any length, from FILE or standard input, and judges each line when it has come. It \
+prints nothing until a key is refused: then `KEY: not atomic` and why no order of its calls up to that line is \
+possible, with the lines on which they stand, and ends. That is final: no later line changes it. What no later call can \
+touch is forgotten, so memory goes with the calls that are pending, and not with the history's length. A key is \
+undecided where a read answers what two writes wrote and neither was overwritten. At the end of the input it prints \
+how many calls on how many keys were judged. On a terminal a line says once a second how far it is.\nExit status: 0 \
+atomic, 1 a key isn't, 2 usage, 3 the file can't be opened or read as its format, 4 memory or a device, 5 none is \
+refused and one is undecided, or a read was answered after it was given up.\n\n\
+Examples:\n  abd monitor examples/new_then_old.history\n  python3 docs/using/toy_store.py --calls 100000 | abd monitor",
+};
+
 /// Of `abd simulate`.
 pub const SIMULATE: CommandHelp = CommandHelp {
     about: "Run a script of calls and faults, and write the history of its run",

@@ -20,8 +20,8 @@ mod word;
 mod words;
 
 pub use asked::{
-    By, CheckAsked, Command, DecideAsked, DrawAsked, JustifyAsked, KeysAsked, RunAsked, Shown,
-    Usage,
+    By, CheckAsked, Command, DecideAsked, DrawAsked, JustifyAsked, KeysAsked, MonitorAsked,
+    RunAsked, Shown, Usage,
 };
 pub use lines::Lines;
 pub use words::command;

@@ -22,6 +22,12 @@ pub(crate) const ANY_NUMBER: NumberRange = NumberRange {
     most: u32::MAX,
 };
 
+/// For how many rows a read may be pending.
+pub(crate) const GIVE_UP: NumberRange = NumberRange {
+    least: 1,
+    most: u32::MAX,
+};
+
 /// How many replicas a store has.
 pub(crate) const REPLICAS: NumberRange = NumberRange { least: 1, most: 15 };
 

@@ -3,18 +3,18 @@ ghost use Rattle.std.specs.Prelude.{◌≡◌, IfErr, IfOk, MatchResult, codes, 
 ghost use Rattle.clap.specs.Words.{kind_of, subcommand_rows_of};
 ghost use Rattle.command_line.specs.Reading.{Finds, FindsOrLacks, IsNone, rows_in};
 ghost use Rattle.command_line.specs.Words.{Asks, AsksAround, AsksBy, AsksCheck, AsksDecision};
-ghost use Rattle.command_line.specs.Words.{AsksDrawing, AsksDrawnBy, AsksForm, AsksKeys, AsksMost};
-ghost use Rattle.command_line.specs.Words.{AsksNothing, AsksOrders, AsksWhole, HasWords};
+ghost use Rattle.command_line.specs.Words.{AsksDrawing, AsksDrawnBy, AsksForm, AsksKeys, AsksMonitor};
+ghost use Rattle.command_line.specs.Words.{AsksMost, AsksNothing, AsksOrders, AsksWhole, HasWords};
 ghost use Rattle.command_line.specs.Words.{IsSaid, IsUsageOf, MakesAs, MakesNothing, MakesOf};
 
 use crate::asked::{
-    By, CheckAsked, Command, DecideAsked, DrawAsked, JustifyAsked, KeysAsked, Usage,
+    By, CheckAsked, Command, DecideAsked, DrawAsked, JustifyAsked, KeysAsked, MonitorAsked, Usage,
 };
 use crate::defaults;
 use crate::fault::WordsFault;
 use crate::forms::abd_words;
 use crate::lines::Lines;
-use crate::ranges::{ANY_NUMBER, SHOWN_CALLS, SHOWN_KEYS, WORKERS};
+use crate::ranges::{ANY_NUMBER, GIVE_UP, SHOWN_CALLS, SHOWN_KEYS, WORKERS};
 use crate::reading::{has_flag, needed_in, number_in, text_in, texts_in};
 use crate::run_words::run_in;
 use clap::error::ErrorKind;
@@ -201,6 +201,19 @@ fn justify_in<'a>(matches: &ArgMatches<'a>) -> Result<JustifyAsked<'a>, WordsFau
     })
 }
 
+/// What the words after `monitor` ask for.
+fn monitor_in<'a>(matches: &ArgMatches<'a>) -> Result<MonitorAsked<'a>, WordsFault>
+    ensures { Finds result (AsksMonitor (rows_in matches.now)) }
+{
+    let give_up = number_in(matches, "give-up", GIVE_UP)?;
+    Ok(MonitorAsked {
+        history: text_in(matches, "FILE"),
+        all: has_flag(matches, "all"),
+        give_up,
+        form: form_in(matches),
+    })
+}
+
 /// `simulate`, of the words after its name.
 fn simulate_in<'a>(matches: &ArgMatches<'a>) -> Result<Command<'a>, WordsFault>
     ensures { Finds result (MakesAs (codes "simulate") (rows_in matches.now)) }
@@ -248,6 +261,8 @@ fn made_in<'a>(
         Ok(Command::Explain(keys_in(matches)?))
     } else if name == "justify" {
         Ok(Command::Justify(justify_in(matches)?))
+    } else if name == "monitor" {
+        Ok(Command::Monitor(monitor_in(matches)?))
     } else if name == "simulate" {
         simulate_in(matches)
     } else if name == "trace" {

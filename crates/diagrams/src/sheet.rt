@@ -18,7 +18,7 @@ pub(crate) const SHEET: &str =
     ":root{color-scheme:light dark;--ink:#1c2430;--soft:#5b6778;--faint:#d5dae2;--grid:#868f9d;--paper:#ffffff;\
 --request:#2f62c9;--reply:#1d8a55;--lost:#c62020;--read-ask:#d9f2e3;--read-put:#86d3a8;\
 --write-ask:#dbe7ff;--write-put:#8fb2f5}\
-@media (prefers-color-scheme:dark){:root{--ink:#e7ebf1;--soft:#a3afc0;--faint:#39424f;--grid:#667283;\
+@media screen and (prefers-color-scheme:dark){:root{--ink:#e7ebf1;--soft:#a3afc0;--faint:#39424f;--grid:#667283;\
 --paper:#12161c;--request:#7da6ff;--reply:#4cc98a;--lost:#ff8080;--read-ask:#12402b;\
 --read-put:#1f7a50;--write-ask:#1b3160;--write-put:#31569f}}\
 body{margin:8px;color:var(--ink);background:var(--paper);font:15px/1.5 system-ui,sans-serif}\
@@ -68,6 +68,10 @@ h1,h2,p{margin:.5rem 0;overflow-wrap:anywhere}\
 .messages .lit .request line:not(.cross){stroke:var(--request)}\
 .messages .lit .reply line:not(.cross){stroke:var(--reply)}\
 .strips{display:none}\
+@media screen{.messages{display:grid;justify-content:start}.strips~svg{grid-area:1/1}\
+.strip,.strip svg~svg{display:none}.strips,.strip:first-child{display:contents}\
+.strip:first-child svg:first-child{grid-area:1/1;position:sticky;top:0;z-index:1;align-self:start;pointer-events:none;\
+background:linear-gradient(90deg,transparent 284px,var(--paper) 0)}}\
 .key{color:var(--soft);max-width:60rem}\
 .key span{display:inline-block;padding:0 .6em;margin-right:.4em;color:var(--ink);\
 border:1.5px solid var(--soft);-webkit-print-color-adjust:exact;print-color-adjust:exact}\
@@ -79,7 +83,7 @@ border:1.5px solid var(--soft);-webkit-print-color-adjust:exact;print-color-adju
 .key .asking{background:var(--write-ask);border-color:var(--request)}\
 .key .putting{background:var(--write-put);border-color:var(--request)}\
 .key .down{background:var(--faint);border-style:dashed}\
-@media print{@page{size:A4 landscape;margin:8mm}\
+@media print{@page{size:A4 landscape;margin:8mm}:root{color-scheme:light}\
 body{margin:0}.messages{overflow:visible;max-height:none;border:0}\
 .messages g.curtain:target{display:none}.messages svg{max-width:100%;height:auto}\
 .strips{display:block}.strips~svg{position:absolute;width:0;height:0}\

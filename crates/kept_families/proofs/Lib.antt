@@ -3,6 +3,8 @@ pub mod Forgetting
 pub mod Pieces
 pub mod Numbers
 pub mod Bounds
+pub mod OwnOnes
+pub mod Counting
 pub mod Continuing
 pub mod GoingOn
 pub mod Instances

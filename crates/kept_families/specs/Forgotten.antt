@@ -20,6 +20,7 @@ module _ (part : List Call) (Reads : Call → Call → Type 0) where
     pub precedes : MustPrecedeBy part Reads row u w
     pub settled : IsSettled row w
 
+  -- some write forgets it by the row
   abbrev pub IsForgotten : ℕ → Call → Type 0
   IsForgotten row u = (w : Call) × IsForgottenBy row w u
 

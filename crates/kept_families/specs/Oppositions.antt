@@ -6,10 +6,11 @@ use Rattle.value_order.specs.Families.{AreOpposedBy}
 use Rattle.kept_families.specs.Forgotten.{IsForgotten}
 
 module _ (part : List Call) (Reads : Call → Call → Type 0) where
-  -- two families are opposed by the row; no two are
+  -- two families are opposed by the row
   abbrev pub HasOpposed : ℕ → Type 0
   HasOpposed row = (x : Call) × (y : Call) × AreOpposedBy part Reads row x y
 
+  -- no two families are opposed by the row
   abbrev pub IsFree : ℕ → Type 0
   IsFree row = HasOpposed row → ⊥
 

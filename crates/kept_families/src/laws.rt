@@ -2,7 +2,7 @@
 //!
 //! They are of families by a table, from reads to writes. A part is that of a whole record, and what holds *by a row*
 //! of it is what the rows up to that one show; `Continues` says that a part grows without changing that.
-ghost use Rattle.std.specs.Prelude.{◌≡◌, ◌≢◌, ◌<◌, ◌≤◌, ◌⊎◌, ◌↔◌, ℕ, Contains, List, Option, Some};
+ghost use Rattle.std.specs.Prelude.{◌≡◌, ◌≢◌, ◌<◌, ◌≤◌, ◌⊎◌, ◌↔◌, ℕ, Contains, List, Option, Some, length};
 ghost use Rattle.tag_check.specs.Least.{HasNoPair};
 ghost use Rattle.recorder.specs.declared.part.Call.{Call};
 ghost use Rattle.recorder.specs.Orders.{IsLinearizable};
@@ -18,7 +18,7 @@ ghost use Rattle.kept_families.specs.Forgotten.{AreKept, IsForgotten, IsForgotte
 ghost use Rattle.kept_families.specs.Open.{IsFirstOpen};
 ghost use Rattle.kept_families.specs.Oppositions.{HasForgottenRead, HasKnownOpposed, HasOpposed, IsFree, IsReadAfter};
 ghost use Rattle.kept_families.specs.SoundTables.{AreAllRead, AreReads, HasRead, IsOverwrittenBy, IsUnreadable};
-ghost use Rattle.kept_families.specs.UnderWay.{IsKeptSettled, IsLatest, WasUnderWay};
+ghost use Rattle.kept_families.specs.UnderWay.{AreKeptSettled, IsKeptSettled, IsLatest, WasUnderWay, under_way_count};
 
 /// A table of reads to their only writers is sound.
 pub fn tables_of_only_writers_are_sound()
@@ -147,13 +147,23 @@ pub fn one_cut_is_enough_for_the_others()
 {}
 
 /// Of each kept settled family a call, which is answered by now, was under way at one place: where the last of them
-/// began last. So there are at most as many as such calls.
+/// began last.
 pub fn kept_settled_families_were_under_way_at_once()
     ensures { (part : List Call) (source : ℕ → Option ℕ) (row place : ℕ) (u : Call)
         → IsSequence part → AreReads part (ReadsBy part source)
         → IsLatest part (ReadsBy part source) row place
         → IsKeptSettled part (ReadsBy part source) row u
         → WasUnderWay part (ReadsBy part source) row place u }
+{}
+
+/// So no more families are kept and settled than calls of the part were under way at that place which are answered by
+/// now: a call is of one family.
+pub fn no_more_are_kept_than_calls_were_under_way()
+    ensures { (part : List Call) (source : ℕ → Option ℕ) (row place : ℕ) (numbers : List ℕ)
+        → IsSequence part → AreReads part (ReadsBy part source)
+        → IsLatest part (ReadsBy part source) row place
+        → AreKeptSettled part (ReadsBy part source) row numbers
+        → length numbers ≤ under_way_count part row place }
 {}
 
 /// A sound table stays sound when the part goes on, if its new entries are.

@@ -19,10 +19,11 @@ grouped number = cond (nat_lt number 1000) (decimal number)
     (decimal (number / 1000000000) ++ group_text (number / 1000000)
     ++ group_text (number / 1000) ++ group_text number)))
 
--- how many calls, and how many keys
+-- how many calls
 abbrev pub calls_words : ℕ → List ℕ
 calls_words calls = grouped calls ++ cond (nat_eq calls 1) (codes " call") (codes " calls")
 
+-- how many keys
 abbrev pub keys_words : ℕ → List ℕ
 keys_words keys = grouped keys ++ cond (nat_eq keys 1) (codes " key") (codes " keys")
 

@@ -28,10 +28,11 @@ calls_text (told.AllOverwritten read value first second) =
     codes "[" ++ decimal read.op.0 ++ codes "," ++ decimal first.0
     ++ codes "," ++ decimal second.0 ++ codes "]"
 
--- the key's object up to its verdict, and from the line of the row at that place on
+-- the key's object up to its verdict
 unfoldable pub beginning : List ℕ → List ℕ
 beginning key = codes "{\"key\":\"" ++ key ++ codes "\",\"verdict\":"
 
+-- the object from the line of the row at that place on
 unfoldable pub ending : ℕ → List ℕ
 ending place = codes ",\"line\":" ++ decimal (line_of place) ++ codes "}\n"
 

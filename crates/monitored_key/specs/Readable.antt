@@ -12,10 +12,11 @@ module _ (known : Known) (writes : ℕ → Option KeptWrite) (begin : ℕ) (valu
   abbrev pub IsWriteOf : ℕ → KeptWrite → Type 0
   IsWriteOf number kept = (writes number ≡ Some kept) × (kept.value ≡ value)
 
-  -- a read that began there may have read it; it can't
+  -- a read that began there may have read that write
   abbrev pub IsFreshWrite : ℕ → Type 0
   IsFreshWrite number = (kept : KeptWrite) × IsWriteOf number kept × IsFreshBy known begin kept.end
 
+  -- a read that began there can't have read that write
   abbrev pub IsStaleWrite : ℕ → Type 0
   IsStaleWrite number = (kept : KeptWrite) × IsWriteOf number kept × IsStaleAt known begin kept
 

@@ -1,3 +1,4 @@
+pub mod Boxes
 pub mod Layout
 pub mod Keys
 pub mod Words

@@ -2,7 +2,7 @@
 use Rattle.std.specs.Prelude.{ℕ, ◌==◌, Bool, nat_lt, if◌then◌else◌, List, [], ◌∷◌, ◌++◌, length}
 use Rattle.std.specs.Prelude.{Option, decimal}
 use Rattle.std.specs.List.{find, list_any}
-use Rattle.markup.specs.Markup.{Markup, NamedText, nothing, text, element, both, each}
+use Rattle.markup.specs.Markup.{Markup, NamedText, nothing, element, both, each}
 use Rattle.markup.specs.declared.names.AttributeName.TheVariants as name
 use Rattle.markup.specs.declared.names.Element.TheVariants as tag
 use Rattle.labels.specs.Each.{each_from}
@@ -15,17 +15,17 @@ use Rattle.recorder.specs.declared.part.Call.{Call}
 use Rattle.explanations.specs.Sentences.{call_text}
 use Rattle.scenes.specs.declared.scene.Bar.{Bar}
 use Rattle.scenes.specs.declared.scene.Scene.{Scene}
-use Rattle.pictures.specs.declared.keys.CallKeys.{CallKeys}
 use Rattle.pictures.specs.declared.picture.Picture.{Picture}
 use Rattle.pictures.specs.declared.sizes.TheConstants.{BOTTOM, FOOT_BASE, LONG, RIGHT}
 use Rattle.pictures.specs.declared.style.TheConstants.{FAULTY_READ, FAULTY_WRITE, PICTURE, READ}
 use Rattle.pictures.specs.declared.style.TheConstants.{TITLE, WRITE}
+use Rattle.pictures.specs.Boxes.{box_attributes, named_calls}
 use Rattle.pictures.specs.Layout.{across, down, rows_of}
 use Rattle.pictures.specs.Ground.{gap_markup, lane_markup, tick_markup}
 use Rattle.pictures.specs.Strips.{client_name, lines_strip, names_strip}
 use Rattle.pictures.specs.Dots.{dot_markup, path_markup}
 use Rattle.pictures.specs.Frames.{corner_of, shape}
-use Rattle.pictures.specs.Keys.{key_of, said_key, title_words}
+use Rattle.pictures.specs.Keys.{key_of, said_key}
 use Rattle.pictures.specs.Texts.{if_any, texts}
 
 -- ---- calls
@@ -38,10 +38,6 @@ call_of calls op = find (λ call. call.op.0 == op.0) calls
 abbrev pub class_of : Action → Bool → List ℕ
 class_of Read faulty = if faulty then FAULTY_READ.now else READ.now
 class_of (Write value) faulty = if faulty then FAULTY_WRITE.now else WRITE.now
-
--- the title of the picture of calls on those keys
-abbrev pub picture_title : CallKeys → Markup
-picture_title keys = element tag.Title [] (both (text TITLE.now) (text (title_words keys)))
 
 module _ (scene : Scene) where
   -- the names of the clients below the rows, in a long picture
@@ -103,9 +99,9 @@ module _ (p : Picture) where
   -- the picture's element: its title, the ground, and the calls
   abbrev pub svg : Markup
   svg = element tag.Svg (svg_attributes p.scene.now)
-      (both (picture_title p.keys) (both (ground p.scene.now) calls_markup))
+      (both (named_calls tag.Title p.keys) (both (ground p.scene.now) calls_markup))
 
-  -- the picture, below the strips that stay in sight
+  -- the picture, in a box that has a name, below the strips that stay in sight
   abbrev pub picture_markup : Markup
-  picture_markup = element tag.Div (words_of name.Class PICTURE.now ∷ [])
+  picture_markup = element tag.Div (box_attributes PICTURE.now TITLE.now p.keys)
       (both (names_strip p.scene.now) (both (lines_strip p.scene.now p.hall) svg))

@@ -17,7 +17,8 @@ use Rattle.pictures.specs.declared.style.TheConstants.{FAULTY_READ, FAULTY_WRITE
 use Rattle.pictures.specs.declared.style.TheConstants.{LINE, LINE_WORD, NOTED, NOTED_HEADING}
 use Rattle.pictures.specs.declared.style.TheConstants.{NOTES, NOTE_HEADING, NOT_ANSWERED, NUMBER}
 use Rattle.pictures.specs.declared.style.TheConstants.{OPEN, OPEN_KEY, PATH, PICTURE, READ}
-use Rattle.pictures.specs.declared.style.TheConstants.{READS, READ_KEY, TABLE_TITLE, TICK, TITLE}
+use Rattle.pictures.specs.declared.style.TheConstants.{READS, READ_KEY, ROWS, TABLE_OF}
+use Rattle.pictures.specs.declared.style.TheConstants.{TABLE_TITLE, TICK, TITLE}
 use Rattle.pictures.specs.declared.style.TheConstants.{WRITE, WRITES, WRITE_KEY}
 use Rattle.pictures.specs.Frames.{frame_of}
 use Rattle.pictures.specs.Layout.{across, room_of}
@@ -45,7 +46,7 @@ abbrev pub class_names : List (List ℕ)
 class_names = PICTURE.now ∷ LANE.now ∷ CLIENT.now ∷ TICK.now ∷ LINE.now ∷ PATH.now ∷ DOT.now
     ∷ NUMBER.now ∷ READ.now ∷ WRITE.now ∷ FAULTY_READ.now ∷ FAULTY_WRITE.now ∷ OPEN.now
     ∷ DOES.now ∷ NOTED.now ∷ ANSWERS.now ∷ LEGEND.now ∷ CALLS.now ∷ NAMES.now ∷ LINES.now
-    ∷ GAP.now ∷ OMITTED.now ∷ []
+    ∷ GAP.now ∷ OMITTED.now ∷ ROWS.now ∷ []
 
 -- what a legend says of the kinds of bars
 abbrev pub legend_words : List (List ℕ)
@@ -63,4 +64,5 @@ call_phrases = READS.now ∷ WRITES.now ∷ NOTES.now ∷ ANSWER.now ∷ DONE.no
 -- other words of a picture
 abbrev pub other_words : List (List ℕ)
 other_words = TITLE.now ∷ ALL_KEYS.now ∷ CLIENT_WORD.now ∷ LINE_WORD.now ∷ CALL_SIGN.now
-    ∷ TABLE_TITLE.now ∷ FAULT_SIGN.now ∷ GAP_SIGN.now ∷ GAP_CALL.now ∷ GAP_CALLS.now ∷ []
+    ∷ TABLE_TITLE.now ∷ TABLE_OF.now ∷ FAULT_SIGN.now ∷ GAP_SIGN.now ∷ GAP_CALL.now
+    ∷ GAP_CALLS.now ∷ []

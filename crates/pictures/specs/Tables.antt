@@ -14,7 +14,9 @@ use Rattle.pictures.specs.declared.picture.Picture.{Picture}
 use Rattle.pictures.specs.declared.style.TheConstants.{ANSWERED_HEADING, ANSWER_HEADING, CALLS}
 use Rattle.pictures.specs.declared.style.TheConstants.{BEGINS_HEADING, CALL_HEADING, CLIENT_HEADING}
 use Rattle.pictures.specs.declared.style.TheConstants.{COLUMN, DOES_HEADING, NOTED_HEADING}
-use Rattle.pictures.specs.declared.style.TheConstants.{NOTE_HEADING, TABLE_TITLE}
+use Rattle.pictures.specs.declared.style.TheConstants.{NOTE_HEADING, ROWS, ROW_SCOPE, TABLE_OF}
+use Rattle.pictures.specs.declared.style.TheConstants.{TABLE_TITLE}
+use Rattle.pictures.specs.Boxes.{box_attributes, named_calls}
 use Rattle.pictures.specs.Keys.{said_key}
 use Rattle.pictures.specs.Pictures.{call_of, class_of, is_faulty, own_key}
 use Rattle.pictures.specs.Texts.{if_any}
@@ -28,13 +30,20 @@ cell words = element tag.Td [] (text (text_of words))
 -- what a cell with that content says
 abbrev pub content_words : Content → List ℕ
 content_words (content.Number number) = decimal number
-content_words (content.Call op faulty) = numbered_words faulty [] op
 content_words (content.Does name action) = name_words name.now ++ action_words false action.now
 content_words (content.Answers response) = response_words response.now
 
+-- a heading of that scope
+abbrev pub scoped : List ℕ → List ℕ → Markup
+scoped scope words = element tag.Th (words_of name.Scope scope ∷ []) (text words)
+
 -- the heading of a column
 abbrev pub heading : List ℕ → Markup
-heading words = element tag.Th (words_of name.Scope COLUMN.now ∷ []) (text words)
+heading words = scoped COLUMN.now words
+
+-- the heading of a row
+abbrev pub row_heading : List ℕ → Markup
+row_heading words = scoped ROW_SCOPE.now (text_of words)
 
 -- the words above the columns: of what a call does, and of where it stands in the history
 abbrev pub columns : List (List ℕ)
@@ -47,7 +56,7 @@ headings = element tag.Tr [] (each heading columns)
 
 -- what a call does: its number, its client, its key's name and its action, and what it answers
 abbrev pub call_cells : Bool → List ℕ → Call → Markup
-call_cells faulty name call = both (cell (numbered_words faulty [] call.op))
+call_cells faulty name call = both (row_heading (numbered_words faulty [] call.op))
     (both (cell (decimal call.client))
     (both (cell (name_words name ++ action_words false call.action))
     (cell (response_words call.response))))
@@ -75,10 +84,15 @@ module _ (p : Picture) where
   row_markup bar = if_any (λ call. if_any (call_row bar call) (own_key p call))
       (call_of p.part.now bar.call)
 
-  -- the table
+  -- the table, with the keys of its calls as its caption
   abbrev pub rows_table : Markup
-  rows_table = element tag.Table [] (both headings (each row_markup p.scene.now.bars.items))
+  rows_table = element tag.Table [] (both (named_calls tag.Caption p.keys)
+      (both headings (each row_markup p.scene.now.bars.items)))
+
+  -- the table, in a box that has a name
+  abbrev pub table_box : Markup
+  table_box = element tag.Div (box_attributes ROWS.now TABLE_OF.now p.keys) rows_table
 
   -- the table, folded
   abbrev pub table_markup : Markup
-  table_markup = element tag.Details (words_of name.Class CALLS.now ∷ []) (both summary rows_table)
+  table_markup = element tag.Details (words_of name.Class CALLS.now ∷ []) (both summary table_box)

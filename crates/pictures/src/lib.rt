@@ -10,6 +10,7 @@
 #![tactic(auto, unfolding(markup::specs::Markup::rendered))]
 
 mod bars;
+mod boxes;
 mod cells;
 mod dots;
 mod frames;

@@ -4,9 +4,10 @@ ghost use Rattle.markup.specs.Markup.{opening_tag, rendered};
 ghost use Rattle.markup.specs.declared.names.Element.TheVariants as tag;
 ghost use Rattle.pictures.specs.Layout.{IsInOrder};
 ghost use Rattle.pictures.specs.Pictures.{call_of, calls_markup, class_of, foot, ground, is_faulty};
-ghost use Rattle.pictures.specs.Pictures.{own_key, picture_markup, picture_title, svg, svg_attributes};
+ghost use Rattle.pictures.specs.Pictures.{own_key, picture_markup, svg, svg_attributes};
 
 use crate::bars::Bars;
+use crate::boxes::{append_named, open_box};
 use crate::dots::Dots;
 use crate::ground::{Gaps, Guides, Ticks};
 use crate::keys::CallKeys;
@@ -18,7 +19,7 @@ use crate::style::{FAULTY_READ, FAULTY_WRITE, PICTURE, READ, TITLE, WRITE};
 use certificate_check::find_call;
 use explanations::HallRows;
 use labels::{append_each, append_each_indexed, open_image};
-use markup::{Element, append_closing, append_opening, append_text, open_of_class};
+use markup::{Element, append_closing};
 use recorder::{Call, Part};
 use scenes::Scene;
 use std::alloc::Global;
@@ -77,16 +78,6 @@ impl<'a> Picture<'a> {
     }
 }
 
-/// Adds the picture's title.
-fn append_name(page: &mut Vec<u8>, keys: CallKeys<'_>) -> Result<(), Memory>
-    ensures { OnOk result (page.new.items ≡ page.old.items ++ rendered (picture_title keys.entry)) }
-{
-    append_opening(page, Element::Title, &[])?;
-    append_text(page, TITLE)?;
-    append_text(page, keys.title_words())?;
-    append_closing(page, Element::Title)
-}
-
 /// Adds the names of the clients below the rows, if the picture is long.
 fn append_foot(alloc: Global, page: &mut Vec<u8>, scene: &Scene) -> Result<(), Memory>
     ensures { OnOk result (page.new.items ≡ page.old.items ++ rendered (foot scene.now)) }
@@ -138,7 +129,7 @@ fn append_svg(alloc: Global, page: &mut Vec<u8>, picture: &Picture<'_>) -> Resul
     ensures { OnOk result (page.new.items ≡ page.old.items ++ rendered (svg picture.now)) }
 {
     open_svg(page, picture.scene)?;
-    append_name(page, picture.keys)?;
+    append_named(page, Element::Title, picture.keys)?;
     append_ground(alloc, page, picture.scene)?;
     append_calls(alloc, page, picture)?;
     append_closing(page, Element::Svg)
@@ -146,7 +137,7 @@ fn append_svg(alloc: Global, page: &mut Vec<u8>, picture: &Picture<'_>) -> Resul
 
 /// Adds the picture: each bar with its call's sentence as its title, each dot, each tick, and a mark
 /// where calls are left out. It lies in a box of its own that scrolls, in which the clients' names and
-/// the lines stay in sight.
+/// the lines stay in sight; the box has a name and can have the focus.
 ///
 /// If it fails, a beginning of that may have been added; so it is with each function here.
 pub fn append_picture(
@@ -158,7 +149,7 @@ pub fn append_picture(
     ensures { OnOk result
         (page.new.items ≡ page.old.items ++ rendered (picture_markup picture.now)) }
 {
-    open_of_class(page, Element::Div, PICTURE)?;
+    open_box(alloc, page, PICTURE, TITLE, picture.keys)?;
     append_names(alloc, page, picture.scene)?;
     append_lines(alloc, page, picture.scene, &picture.hall)?;
     append_svg(alloc, page, picture)?;

@@ -13,18 +13,18 @@ use tag::Memory;
 /// The colours, and the sizes of texts, for pages of pictures: without quotation marks and other marks
 /// of HTML, so that it stands as it is.
 pub(crate) const SHEET: &str =
-    ":root{color-scheme:light dark;--ink:#1c2430;--soft:#5b6778;--faint:#d5dae2;--paper:#ffffff;\
+    ":root{color-scheme:light dark;--ink:#1c2430;--soft:#5b6778;--faint:#d5dae2;--grid:#868f9d;--paper:#ffffff;\
 --read:#d9f2e3;--read-edge:#1d8a55;--write:#dbe7ff;--write-edge:#2f62c9;--fault:#ffdcdc;\
 --fault-edge:#c62020;--yes:#14784a;--dot:#1c2430}\
-@media (prefers-color-scheme:dark){:root{--ink:#e7ebf1;--soft:#a3afc0;--faint:#39424f;\
---paper:#12161c;--read:#12402b;--read-edge:#4cc98a;--write:#1b3160;--write-edge:#7da6ff;\
+@media screen and (prefers-color-scheme:dark){:root{--ink:#e7ebf1;--soft:#a3afc0;--faint:#39424f;\
+--grid:#667283;--paper:#12161c;--read:#12402b;--read-edge:#4cc98a;--write:#1b3160;--write-edge:#7da6ff;\
 --fault:#5a1b1f;--fault-edge:#ff8080;--yes:#5fd39a;--dot:#ffffff}}\
 body{margin:8px;color:var(--ink);background:var(--paper);font:15px/1.5 system-ui,sans-serif}\
 h1,h2,p{margin:.5rem 0;overflow-wrap:anywhere}h2{margin-top:2rem}\
 html:has(g:target){scroll-padding-top:45vh}\
 .yes{color:var(--yes)}.no{color:var(--fault-edge)}.legend{color:var(--soft);max-width:60rem}\
 .legend span{display:inline-block;padding:0 .6em;margin-right:.4em;color:var(--ink);\
-border:1.5px solid}\
+border:1.5px solid;-webkit-print-color-adjust:exact;print-color-adjust:exact}\
 .legend .write{background:var(--write);border-color:var(--write-edge)}\
 .legend .read{background:var(--read);border-color:var(--read-edge);border-radius:.7em}\
 .legend .faulty{background:var(--fault);border-color:var(--fault-edge)}\
@@ -37,7 +37,7 @@ font:10px ui-monospace,monospace}\
 border-bottom:1px solid var(--faint)}\
 .picture .lines{position:sticky;left:0;z-index:1;background:var(--paper)}\
 .picture text{fill:var(--ink)}\
-.lane,.tick{stroke:var(--faint);stroke-width:1}.tick{stroke-dasharray:1 3}\
+.lane,.tick{stroke:var(--grid);stroke-width:1}.tick{stroke-dasharray:1 3}\
 .picture .client{font-weight:bold;text-anchor:middle}\
 .picture .line{fill:var(--soft);text-anchor:end}\
 .gap{stroke:var(--ink);stroke-width:1.5;stroke-dasharray:8 6}\
@@ -54,12 +54,16 @@ stroke-width:3}\
 .picture .faulty .noted,.picture .faulty .answers{fill:var(--ink);font-weight:bold}\
 .path{fill:none;stroke:var(--ink);stroke-width:2;stroke-linejoin:round}\
 .dot{fill:var(--dot)}.picture .number{font-weight:bold}\
-summary{cursor:pointer;color:var(--soft)}.calls{overflow-x:auto}\
+summary{cursor:pointer;color:var(--soft)}.rows{overflow-x:auto}\
+.rows caption{text-align:left;color:var(--soft)}\
 table{border-collapse:collapse;margin:.5rem 0;font-size:13px}\
 th,td{border-bottom:1px solid var(--faint);padding:.15rem .7rem .15rem 0;text-align:left;\
-vertical-align:top}td{overflow-wrap:anywhere;min-width:3em}\
-tr.faulty td{color:var(--fault-edge);font-weight:bold}\
-@media print{body{margin:0}.picture{overflow:visible;max-height:none;max-width:none;border:none}}";
+vertical-align:top}td,th[scope=row]{overflow-wrap:anywhere;min-width:3em}\
+th[scope=row]{font-weight:normal}tr.faulty th,tr.faulty td{color:var(--fault-edge);font-weight:bold}\
+@media print{@page{size:A4 landscape;margin:8mm}:root{color-scheme:light}body{margin:0}\
+.picture{overflow:visible;max-height:none;max-width:none;border:none}.rows{overflow:visible}\
+.picture svg{font-size:11px;letter-spacing:-.6px;print-color-adjust:exact}\
+details::details-content{display:block;height:auto;content-visibility:visible}}";
 
 /// What the legend says after its samples.
 pub(crate) const LEGEND_WORDS: &str =

@@ -46,6 +46,8 @@ pub(crate) const LEGEND: &str = "legend";
 
 pub(crate) const CALLS: &str = "calls";
 
+pub(crate) const ROWS: &str = "rows";
+
 // ---- words
 
 pub(crate) const TITLE: &str = "The calls on ";
@@ -82,7 +84,11 @@ pub(crate) const DONE: &str = "done";
 
 pub(crate) const TABLE_TITLE: &str = "The calls as a table";
 
+pub(crate) const TABLE_OF: &str = "Table of the calls on ";
+
 pub(crate) const COLUMN: &str = "col";
+
+pub(crate) const ROW_SCOPE: &str = "row";
 
 pub(crate) const CALL_HEADING: &str = "call";
 
@@ -113,3 +119,5 @@ pub(crate) const FAULTY_KEY: &str = "\u{2717} at fault";
 // ---- values of attributes
 
 pub(crate) const HIDDEN: &str = "true";
+
+pub(crate) const REGION: &str = "region";

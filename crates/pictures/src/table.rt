@@ -2,13 +2,16 @@
 ghost use Rattle.std.specs.Prelude.{◌≡◌, ◌++◌, OnOk};
 ghost use Rattle.markup.specs.Markup.{each, rendered};
 ghost use Rattle.pictures.specs.Tables.{call_cells, heading, headings, line_cells, row_markup};
-ghost use Rattle.pictures.specs.Tables.{rows_table, table_markup};
+ghost use Rattle.pictures.specs.Tables.{rows_table, table_box, table_markup};
 
-use crate::cells::{Content, append_cell, append_heading, append_line, append_words};
+use crate::boxes::{append_named, open_box};
+use crate::cells::{
+    Content, append_cell, append_heading, append_line, append_row_heading, append_words,
+};
 use crate::picture::Picture;
 use crate::style::{
     ANSWER_HEADING, ANSWERED_HEADING, BEGINS_HEADING, CALL_HEADING, CALLS, CLIENT_HEADING,
-    DOES_HEADING, NOTE_HEADING, NOTED_HEADING, TABLE_TITLE,
+    DOES_HEADING, NOTE_HEADING, NOTED_HEADING, ROWS, TABLE_OF, TABLE_TITLE,
 };
 use crate::words::say_note;
 use explanations::HallRows;
@@ -56,7 +59,8 @@ fn append_headings(page: &mut Vec<u8>) -> Result<(), Memory>
     append_closing(page, Element::Tr)
 }
 
-/// Adds the cells that say whether the call is at fault, and what it does, with that name of its key.
+/// Adds the heading that says whether the call is at fault, and the cells of what it does, with that
+/// name of its key.
 fn append_call_cells(
     alloc: Global,
     page: &mut Vec<u8>,
@@ -67,7 +71,7 @@ fn append_call_cells(
     ensures { OnOk result
         (page.new.items ≡ page.old.items ++ rendered (call_cells faulty name.now call.now)) }
 {
-    append_cell(alloc, page, &Content::Call(call.op, faulty))?;
+    append_row_heading(alloc, page, call.op, faulty)?;
     append_cell(alloc, page, &Content::Number(u64::from(call.client.get())))?;
     append_cell(alloc, page, &Content::Does(name, &call.action))?;
     append_cell(alloc, page, &Content::Answers(&call.response))
@@ -115,15 +119,25 @@ impl Shape for Rows<'_> {
     }
 }
 
-/// Adds the table's body and its headings.
+/// Adds the table's caption, its headings and its body.
 fn append_table(alloc: Global, page: &mut Vec<u8>, picture: &Picture<'_>) -> Result<(), Memory>
     ensures { OnOk result (page.new.items ≡ page.old.items ++ rendered (rows_table picture.now)) }
 {
     let scene = picture.scene;
     append_opening(page, Element::Table, &[])?;
+    append_named(page, Element::Caption, picture.keys)?;
     append_headings(page)?;
     append_each(page, &Rows { alloc, picture }, &scene.bars)?;
     append_closing(page, Element::Table)
+}
+
+/// Adds the table in a box that scrolls, which has a name and can have the focus.
+fn append_box(alloc: Global, page: &mut Vec<u8>, picture: &Picture<'_>) -> Result<(), Memory>
+    ensures { OnOk result (page.new.items ≡ page.old.items ++ rendered (table_box picture.now)) }
+{
+    open_box(alloc, page, ROWS, TABLE_OF, picture.keys)?;
+    append_table(alloc, page, picture)?;
+    append_closing(page, Element::Div)
 }
 
 /// Adds the table of the picture's calls, a row for each bar, folded.
@@ -137,6 +151,6 @@ pub fn append_call_table(
 {
     open_of_class(page, Element::Details, CALLS)?;
     append_plain(page, Element::Summary, TABLE_TITLE)?;
-    append_table(alloc, page, picture)?;
+    append_box(alloc, page, picture)?;
     append_closing(page, Element::Details)
 }

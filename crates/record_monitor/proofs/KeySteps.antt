@@ -18,18 +18,20 @@ use Rattle.recorder.specs.Histories.{HasResponse, IsWellFormed, MayFollow}
 use Rattle.recorder.specs.Records.{AreFirstSeen, BeginsAt}
 use Rattle.growing_parts.specs.PartsWithout.{IsRowOutside}
 use Rattle.growing_parts.proofs.Without.{in_cases}
+use Rattle.monitored_key.specs.declared.judged.Refusal.{Refusal}
 use Rattle.monitored_key.specs.Held.{Held}
 use Rattle.record_monitor.specs.declared.report.Finding.{Finding}
-use Rattle.record_monitor.specs.declared.report.Finding.TheVariants.{EndedAfterAll}
+use Rattle.record_monitor.specs.declared.report.Finding.TheVariants.{EndedAfterAll, Refused}
 use Rattle.record_monitor.specs.declared.report.Report.{Report}
 use Rattle.record_monitor.specs.declared.watched.Watched.{Watched}
 use Rattle.record_monitor.specs.declared.watched_keys.WatchedKeys.{WatchedKeys}
 use Rattle.record_monitor.specs.Ended.{HasEnded}
 use Rattle.record_monitor.specs.Followed.{AreTold, FollowsKey, GoesOn, IsFollowed, KeepsState}
-use Rattle.record_monitor.specs.Watched.{AreWatched, IsTrueReport, IsWatched}
+use Rattle.record_monitor.specs.Watched.{AreWatched, HasReport, IsTrueReport, IsWatched}
 use Rattle.record_monitor.proofs.FirstSeen.{AreFirstSeen-first, AreFirstSeen-same, BeginsCall}
 use Rattle.record_monitor.proofs.OneKey.{are_watched, ChangesOne, found_of_key, goes_on, if_of_match, match_by, match_on, not_none, row_of_key}
-use Rattle.record_monitor.proofs.Reporting.{AreAmong, doubted_among, ended_among, refused_among, refused_on, true_on}
+use Rattle.record_monitor.proofs.Reporting.{AreAmong, AreRefusalsAmong, doubted_among, ended_among, had_on, orders_on}
+use Rattle.record_monitor.proofs.Reporting.{refusals_but, refusals_same, refused_among, refused_on, true_on}
 use Rattle.record_monitor.proofs.Responses.{response_back}
 use Rattle.record_monitor.proofs.KeptStates.{state_kept}
 use Rattle.record_monitor.proofs.ToldRows.{are_told_on}
@@ -119,11 +121,20 @@ module _ (most : ℕ) (rows : List Row) (gone key : List ℕ) (client : ℕ) (op
   among : AreAmong old.reports.items new.reports.items
   among report there = subst (λ (l : List Report). Contains l report) (sym same) there
 
-  own : FollowsKey after key gone now → IsSome now.state → now.is_doubtful ≡ false → (n : ℕ)
+  -- nothing is reported of a key that wasn't seen
+  unreported : (n : ℕ) → n ≡ length old.numbers → (place : ℕ) (refusal : Refusal)
+      → HasReport new.reports.items place n (Refused refusal) → ⊥
+  unreported n e place refusal h =
+      let report : Report = record { place = place; key = n; finding = Refused refusal } in
+      let t = a.reported report (subst (λ (l : List Report). Contains l report) same h) in
+      absurd (omega (arith, e, slice_get_within old.numbers n t.key t.seen))
+
+  own : FollowsKey after key gone now → IsSome now.state → now.is_doubtful ≡ false → (n : ℕ) → n ≡ length old.numbers
       → IsWatched most after gone new.reports.items n key now
-  own follows state doubt n = record {
+  own follows state doubt n at = record {
     state = match_by _ _ now.state (λ none. absurd (not_none now.state none state)) follows.0;
     doubt = λ e. absurd (cc (sym doubt ∙ e));
+    ordered = λ e place refusal h. absurd (unreported n at place refusal h);
     told = follows.1;
   }
 
@@ -141,6 +152,8 @@ module _ (most : ℕ) (rows : List Row) (gone key : List ℕ) (client : ℕ) (op
                 (refused_on most rows row k n watched.is_doubtful old.reports.items r))
                 (λ held f. other_row rows formed k gone watched.is_doubtful held f row may apart) is.state;
             doubt = λ e. doubted_among old.reports.items new.reports.items n among (is.doubt e);
+            ordered = λ e. orders_on most rows after k n old.reports.items new.reports.items (had_on most rows row k)
+                (refusals_same n new.reports.items old.reports.items same) (is.ordered e);
             told = are_told_on rows row k watched is.told;
           }
       | inr last ↦ absurd (omega (arith, last.0, a.many, slice_get_within old.numbers n k there))
@@ -148,7 +161,7 @@ module _ (most : ℕ) (rows : List Row) (gone key : List ℕ) (client : ℕ) (op
     | inr here ↦ elim (push_cases old.watched.items now n watched at_watched) [
       | inl was ↦ absurd (omega (arith, here.0, a.many, slice_get_within old.watched.items n watched was))
       | inr last ↦ subst (λ (l : List ℕ). IsWatched most after gone new.reports.items n l watched) here.1
-          (subst (λ (w : Watched). IsWatched most after gone new.reports.items n key w) last.1 (own follows state doubt n))
+          (subst (λ (w : Watched). IsWatched most after gone new.reports.items n key w) last.1 (own follows state doubt n here.0))
     ]
   ]
 
@@ -195,6 +208,8 @@ after_all most rows gone key client begin place op returned number old new forme
                 (refused_on most rows row k n w.is_doubtful old.reports.items r))
                 (λ held f. other_row rows formed k gone w.is_doubtful held f row may (inl there)) is.state;
             doubt = λ d. doubted_among old.reports.items new.reports.items n among (is.doubt d);
+            ordered = λ d. orders_on most rows after k n old.reports.items new.reports.items (had_on most rows row k)
+                (refusals_but new.reports.items old.reports.items place number op more n) (is.ordered d);
             told = are_told_on rows row k w is.told;
           };
       ended = λ o gone_there h. elim (cases_eq o.0 op.0) [
@@ -247,14 +262,16 @@ given_up_of_key most rows gone key client op number old new was now formed at be
     let others : (k : List ℕ) → k ≢ key → (doubt : Bool) (held : Held) → IsFollowed rows k gone doubt held
     → IsFollowed rows k (op.0 ∷ gone) doubt held
     = λ k apart doubt held f. other_given_up rows formed k gone doubt held f op client key begun (λ e. apart (sym e)) in
-    are_watched most rows rows gone (op.0 ∷ gone) old new a number key at was now numbers changes among (λ k n doubt reports w. w) others
-    (λ k w t. t) a.seen
+    let back : (n : ℕ) → AreRefusalsAmong n new.reports.items old.reports.items
+    = λ n. refusals_same n new.reports.items old.reports.items same in
+    are_watched most rows rows gone (op.0 ∷ gone) old new a number key at was now numbers changes among (λ n apart. back n)
+    (λ k n doubt reports w. w) (λ k place h. h) others (λ k w t. t) a.seen
     (λ o there h. elim (in_cases op.0 gone o.0 there) [
       | inl one ↦ absurd (pending (subst (HasResponse rows) (sym (same_op op o one)) h))
       | inr was ↦ ended_among old.reports.items new.reports.items o among (a.ended o was h)
     ])
-    (goes_on most rows rows gone (op.0 ∷ gone) old new a number key at was now numbers changes among (λ k n doubt reports w. w) others
-    (λ k w t. t) follows goes)
+    (goes_on most rows rows gone (op.0 ∷ gone) old new a number key at was now numbers changes among (λ n apart. back n)
+    (λ k n doubt reports w. w) (λ k place h. h) others (λ k w t. t) (back number) follows goes)
     (λ report there. a.reported report (subst (λ (l : List Report). Contains l report) same there))
 
 -- ---- a note, which may be told
@@ -270,10 +287,12 @@ noted_of_key most rows gone key number old new was now at a numbers changes same
     → IsFollowed rows k gone doubt held
     = λ k apart doubt held f. f in
     let before = a.each number key was at changes.before in
-    are_watched most rows rows gone gone old new a number key at was now numbers changes among (λ k n doubt reports w. w) others
-    (λ k w t. t) a.seen (λ o there h. ended_among old.reports.items new.reports.items o among (a.ended o there h))
-    (goes_on most rows rows gone gone old new a number key at was now numbers changes among (λ k n doubt reports w. w) others
-    (λ k w t. t) (state_kept was now k rows key gone (if_of_match _ _ was.state before.state), told) (record {
+    let back : (n : ℕ) → AreRefusalsAmong n new.reports.items old.reports.items
+    = λ n. refusals_same n new.reports.items old.reports.items same in
+    are_watched most rows rows gone gone old new a number key at was now numbers changes among (λ n apart. back n)
+    (λ k n doubt reports w. w) (λ k place h. h) others (λ k w t. t) a.seen (λ o there h. ended_among old.reports.items new.reports.items o among (a.ended o there h))
+    (goes_on most rows rows gone gone old new a number key at was now numbers changes among (λ n apart. back n)
+    (λ k n doubt reports w. w) (λ k place h. h) others (λ k w t. t) (back number) (state_kept was now k rows key gone (if_of_match _ _ was.state before.state), told) (record {
       doubt = k.doubt;
       refused = λ none. k.state ∙ none;
       followed = λ none. sym k.state ∙ none;

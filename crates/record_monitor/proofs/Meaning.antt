@@ -14,7 +14,7 @@ use Rattle.recorder.specs.Histories.{HasResponse, IsWellFormed, MayFollow}
 use Rattle.recorder.specs.Orders.{IsLinearizable}
 use Rattle.recorder.specs.Records.{IsPart}
 use Rattle.kept_families.proofs.Orders.{free_is_linearizable}
-use Rattle.growing_parts.specs.PartsWithout.{AreReadsOf}
+use Rattle.growing_parts.specs.PartsWithout.{AreReadsOf, IsPartWithout}
 use Rattle.growing_parts.proofs.Empty.{nothing_followed}
 use Rattle.growing_parts.proofs.Orders.{order_less, order_of_part, order_of_whole}
 use Rattle.monitored_key.specs.Changes.{nothing_held}
@@ -28,9 +28,10 @@ use Rattle.record_monitor.specs.declared.taken.Taken.{Taken}
 use Rattle.record_monitor.specs.declared.watched.Watched.{Watched}
 use Rattle.record_monitor.specs.Followed.{IsFollowed, told_in}
 use Rattle.record_monitor.specs.Judgements.{WasJudged}
-use Rattle.record_monitor.specs.Monitored.{HasTaken, keys_of, reports_of, watched_of}
+use Rattle.record_monitor.specs.Monitored.{HasTaken, give_up_of, keys_of, reports_of, watched_of}
 use Rattle.record_monitor.specs.Taken.{KeepsRows}
 use Rattle.record_monitor.specs.Told.{IsTold}
+use Rattle.record_monitor.specs.Waiting.{AreGivenUp}
 use Rattle.record_monitor.specs.Watched.{HasReport, WasDoubted}
 use Rattle.record_monitor.proofs.Beginning.{knows_nothing}
 use Rattle.record_monitor.proofs.Following.{ordered}
@@ -70,6 +71,18 @@ refusal_is_final rows None place number refusal formed taken reported = absurd t
 refusal_is_final rows (Some taken) place number refusal formed k reported =
     let t = k.keys.knows.keys.reported (record { place = place; key = number; finding = Refused refusal }) reported in
     (t.key, t.seen, refuted taken.give_up rows formed t.key place refusal t.found)
+
+-- ---- until a refusal there was an order
+
+pub ordered_before : (rows : List Row) (monitor : Option Taken) (place number : ℕ) (refusal : Refusal) (key : List ℕ) (watched : Watched)
+    → HasTaken rows monitor → HasReport (reports_of monitor) place number (Refused refusal)
+    → slice_get (keys_of monitor) number ≡ Some key → slice_get (watched_of monitor) number ≡ Some watched
+    → watched.is_doubtful ≡ false → (gone : List ℕ) × AreGivenUp (give_up_of monitor) (take place rows) gone
+    × (before : List Call) × IsPartWithout (take place rows) key gone before × IsLinearizable before
+ordered_before rows None place number refusal key watched taken reported at_key at sure = absurd taken
+ordered_before rows (Some taken) place number refusal key watched k reported at_key at sure =
+    let h = (k.keys.knows.keys.each number key watched at_key at).ordered sure place refusal reported in
+    (h.gone, h.given_up, h.before, h.was, h.ordered)
 
 -- ---- a key that is followed
 

@@ -12,6 +12,8 @@ use Rattle.recorder.specs.declared.row.Row.TheVariants.{Respond}
 use Rattle.recorder.specs.Histories.{HasResponse, IsWellFormed, MayFollow}
 use Rattle.recorder.specs.Records.{AreFirstSeen}
 use Rattle.growing_parts.specs.PartsWithout.{IsRowOutside}
+use Rattle.monitored_key.specs.declared.judged.Judged.TheVariants as judged
+use Rattle.monitored_key.specs.declared.judged.Refusal.{Refusal}
 use Rattle.monitored_key.specs.Held.{Held}
 use Rattle.record_monitor.specs.declared.report.Finding.{Finding}
 use Rattle.record_monitor.specs.declared.report.Finding.TheVariants.{Refused, Undecided, EndedAfterAll}
@@ -21,9 +23,10 @@ use Rattle.record_monitor.specs.declared.watched_keys.WatchedKeys.{WatchedKeys}
 use Rattle.record_monitor.specs.Ended.{HasEnded}
 use Rattle.record_monitor.specs.Followed.{AreTold, FollowsKey, GoesOn, IsFollowed}
 use Rattle.record_monitor.specs.Judgements.{WasFound}
-use Rattle.record_monitor.specs.Watched.{AreWatched, IsTrueReport, IsWatched, WasEnded, WasRefused}
+use Rattle.record_monitor.specs.Watched.{AreWatched, HadOrder, HadOrders, IsTrueReport, IsWatched, WasEnded, WasRefused}
 use Rattle.record_monitor.proofs.FirstSeen.{AreFirstSeen-same, BeginsCall}
-use Rattle.record_monitor.proofs.Reporting.{AreAmong, doubted_among, ended_among, refused_among, refused_on, true_on}
+use Rattle.record_monitor.proofs.Reporting.{AreAmong, AreRefusalsAmong, doubted_among, ended_among, had_before, had_on, orders_on}
+use Rattle.record_monitor.proofs.Reporting.{refusals_of_others, refusals_same, refused_among, refused_on, true_on}
 use Rattle.record_monitor.proofs.Responses.{response_back}
 use Rattle.record_monitor.proofs.ToldRows.{are_told_on}
 use Rattle.record_monitor.proofs.Watching.{other_row}
@@ -80,8 +83,10 @@ module _ (most : ℕ) (rows after : List Row) (gone later : List ℕ) (old new :
     (key : List ℕ) (at : slice_get old.numbers number ≡ Some key) (was now : Watched) (numbers : new.numbers ≡ old.numbers)
     (changes : ChangesOne old.watched.items new.watched.items number was now)
     (among : AreAmong old.reports.items new.reports.items)
+    (back : (n : ℕ) → n ≢ number → AreRefusalsAmong n new.reports.items old.reports.items)
     (refused : (k : List ℕ) (n : ℕ) (doubt : Bool) (reports : List Report) → WasRefused most rows k n doubt reports
     → WasRefused most after k n doubt reports)
+    (had : (k : List ℕ) (place : ℕ) → HadOrder most rows k place → HadOrder most after k place)
     (followed : (k : List ℕ) → k ≢ key → (doubt : Bool) (held : Held) → IsFollowed rows k gone doubt held
     → IsFollowed after k later doubt held)
     (told : (k : List ℕ) (watched : Watched) → AreTold rows k watched → AreTold after k watched) where
@@ -92,12 +97,15 @@ module _ (most : ℕ) (rows after : List Row) (gone later : List ℕ) (old new :
   followed_before = follows_now most rows gone old.reports.items number key was before
 
   -- it goes on, and nothing is new of it
-  pub goes_on : FollowsKey after key later now → GoesOn was now → IsWatched most after later new.reports.items number key now
-  goes_on follows goes = record {
+  pub goes_on : AreRefusalsAmong number new.reports.items old.reports.items → FollowsKey after key later now → GoesOn was now
+      → IsWatched most after later new.reports.items number key now
+  goes_on own_back follows goes = record {
     state = match_by _ _ now.state (λ none. subst (λ (d : Bool). WasRefused most after key number d new.reports.items) (sym goes.doubt)
         (refused_among most after key number was.is_doubtful old.reports.items new.reports.items among
         (refused key number was.is_doubtful old.reports.items (none_of_match _ _ was.state (goes.followed none) before.state)))) follows.0;
     doubt = λ e. doubted_among old.reports.items new.reports.items number among (before.doubt (sym goes.doubt ∙ e));
+    ordered = λ e. orders_on most rows after key number old.reports.items new.reports.items (had key) own_back
+        (before.ordered (sym goes.doubt ∙ e));
     told = follows.1;
   }
 
@@ -123,6 +131,7 @@ module _ (most : ℕ) (rows after : List Row) (gone later : List ℕ) (old new :
                   (refused k n watched.is_doubtful old.reports.items r))
                   (λ held f. followed k another watched.is_doubtful held f) is.state;
               doubt = λ e. doubted_among old.reports.items new.reports.items n among (is.doubt e);
+              ordered = λ e. orders_on most rows after k n old.reports.items new.reports.items (had k) (back n apart) (is.ordered e);
               told = told k watched is.told;
             }
       ]
@@ -159,6 +168,9 @@ module _ (most : ℕ) (rows : List Row) (row : Row) (gone : List ℕ) (formed : 
       → WasRefused most after k n doubt reports
   refused k n doubt reports w = refused_on most rows row k n doubt reports w
 
+  still_had : (k : List ℕ) (place : ℕ) → HadOrder most rows k place → HadOrder most after k place
+  still_had k place h = had_on most rows row k place h
+
   others : (k : List ℕ) → k ≢ key → (doubt : Bool) (held : Held) → IsFollowed rows k gone doubt held → IsFollowed after k gone doubt held
   others k apart doubt held f = other_row rows formed k gone doubt held f row may (out k apart)
 
@@ -182,9 +194,12 @@ module _ (most : ℕ) (rows : List Row) (row : Row) (gone : List ℕ) (formed : 
   row_of_key same follows goes =
       let among : AreAmong old.reports.items new.reports.items = λ report there. subst (λ (l : List Report). Contains l report)
       (sym same) there in
-      are_watched most rows after gone gone old new a number key at was now numbers changes among refused others still_told seen
-      (still_ended among)
-      (goes_on most rows after gone gone old new a number key at was now numbers changes among refused others still_told follows goes)
+      let back : (n : ℕ) → AreRefusalsAmong n new.reports.items old.reports.items
+      = λ n. refusals_same n new.reports.items old.reports.items same in
+      are_watched most rows after gone gone old new a number key at was now numbers changes among (λ n apart. back n) refused still_had
+      others still_told seen (still_ended among)
+      (goes_on most rows after gone gone old new a number key at was now numbers changes among (λ n apart. back n) refused still_had
+      others still_told (back number) follows goes)
       (λ report there. still_true report (subst (λ (l : List Report). Contains l report) same there))
 
   -- that was found
@@ -214,8 +229,21 @@ module _ (most : ℕ) (rows : List Row) (row : Row) (gone : List ℕ) (formed : 
       finish : IsWatched most after gone new.reports.items number key now → WasFound most after key place finding
           → AreWatched most after gone new
       finish own found = are_watched most rows after gone gone old new a number key at was now numbers changes
-          among_more refused others still_told seen
+          among_more (λ n apart. refusals_of_others new.reports.items old.reports.items (found_report finding) more n apart) refused
+          still_had others still_told seen
           (still_ended among_more) own (true_now found)
+
+    -- the orders before this refusal and those before it
+    orders_more : (refusal : Refusal) → new.reports.items ≡ old.reports.items ++ found_report (Refused refusal) ∷ []
+        → HadOrders most rows key number old.reports.items → HadOrder most after key place
+        → HadOrders most after key number new.reports.items
+    orders_more refusal more were here p other h =
+        let it : Report = record { place = p; key = number; finding = Refused other } in
+        elim (Contains-push_cases old.reports.items (found_report (Refused refusal)) it
+        (subst (λ (l : List Report). Contains l it) more h)) [
+          | inl w ↦ still_had key p (were p other w)
+          | inr same ↦ subst (HadOrder most after key) (ap (λ (r : Report). r.place) same) here
+        ]
 
     pub found_of_key : (finding : Finding) → new.reports.items ≡ old.reports.items ++ found_report finding ∷ []
         → HasEnded most after place key gone was now (Some finding) → AreWatched most after gone new
@@ -229,11 +257,14 @@ module _ (most : ℕ) (rows : List Row) (row : Row) (gone : List ℕ) (formed : 
       }) (subst (λ (o : Option Held). IfSome o (IsFollowed after key gone now.is_doubtful)) (sym h.0) tt);
       doubt = λ e. doubted_among old.reports.items new.reports.items number (among_more (Refused refusal) more)
           ((a.each number key was at changes.before).doubt (sym h.1 ∙ e));
+      ordered = λ e. orders_more refusal more ((a.each number key was at changes.before).ordered (sym h.1 ∙ e))
+          (had_before most after key place (judged.Refused refusal) h.3 (h.4 (sym h.1 ∙ e)));
       told = h.2;
     }) h.3
     found_of_key (Undecided op one two) more h = finish (Undecided op one two) more (record {
       state = match_by _ _ now.state (λ none. absurd (not_none now.state none h.1)) h.0.0;
       doubt = λ e. (place, op, one, two, there_now (Undecided op one two) more);
+      ordered = λ e. absurd (cc (sym h.2 ∙ e));
       told = h.0.1;
     }) h.3
     found_of_key (EndedAfterAll op) more h = absurd h

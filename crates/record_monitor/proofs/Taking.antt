@@ -27,7 +27,7 @@ use Rattle.record_monitor.specs.Waiting.{AreGivenUp, AreWaiting}
 use Rattle.record_monitor.specs.Watched.{AreWatched}
 use Rattle.record_monitor.proofs.FirstSeen.{AreFirstSeen-same}
 use Rattle.record_monitor.proofs.OneKey.{match_on}
-use Rattle.record_monitor.proofs.Reporting.{refused_on, true_on}
+use Rattle.record_monitor.proofs.Reporting.{had_on, refused_on, true_on}
 use Rattle.record_monitor.proofs.Responses.{response_back}
 use Rattle.record_monitor.proofs.Waits.{contains_cases, given_up_on, reads_of, waits_noted}
 use Rattle.record_monitor.proofs.ToldRows.{are_told_on}
@@ -157,6 +157,7 @@ noted_watched most rows gone keys formed op tag may a = record {
         state = match_on _ _ _ _ w.state (λ r. refused_on most rows (Note op tag) k n w.is_doubtful keys.reports.items r)
             (λ held f. noted rows formed k gone w.is_doubtful held f op tag may) is.state;
         doubt = is.doubt;
+        ordered = λ e place refusal h. had_on most rows (Note op tag) k place (is.ordered e place refusal h);
         told = are_told_on rows (Note op tag) k w is.told;
       };
   reported = λ report there. true_on most rows (Note op tag) keys.numbers keys.numbers (λ n k x. x) report (a.reported report there);

@@ -60,19 +60,21 @@ pub record AreTold (rows : List Row) (key : List ℕ) (watched : Watched) : Type
 abbrev pub FollowsKey : List Row → List ℕ → List ℕ → Watched → Type 0
 FollowsKey rows key gone watched = FollowsState rows key gone watched × AreTold rows key watched
 
--- a step leaves the calls and what is told of them, or it leaves the state
+-- a step leaves the calls of the key and what is told of them as they were
 pub record KeepsTold (old new : Watched) : Type 0 where
   pub calls : new.calls ≡ old.calls
   pub told : new.told ≡ old.told
 
+-- a step leaves the state of the key, and whether it has a doubt
 pub record KeepsState (old new : Watched) : Type 0 where
   pub state : new.state ≡ old.state
   pub doubt : new.is_doubtful ≡ old.is_doubtful
 
--- the next row of the key may have that place; its next write may have that number
+-- the next row of the key may have that place
 abbrev pub IsNextAt : Watched → ℕ → Type 0
 IsNextAt watched place = IfSome watched.state (λ held. held.next ≤ place)
 
+-- the next write of the key may have that number
 abbrev pub IsNumberedAt : Watched → ℕ → Type 0
 IsNumberedAt watched number = IfSome watched.state (λ held. held.number ≤ number)
 
@@ -82,18 +84,20 @@ pub record GoesOn (old new : Watched) : Type 0 where
   pub refused : old.state ≡ None → new.state ≡ None
   pub followed : new.state ≡ None → old.state ≡ None
 
--- whether a key is refused, and whether it has a doubt
+-- whether the key is refused
 abbrev pub is_refused : Watched → Bool
 is_refused watched = is_none watched.state
 
+-- whether the key has a doubt
 abbrev pub is_doubtful : Watched → Bool
 is_doubtful watched = watched.is_doubtful
 
--- how many families are kept: of a refused key none
+-- how many families are kept of what follows a key: of a refused key none
 abbrev pub kept_in : Option Held → ℕ
 kept_in None = 0
 kept_in (Some held) = length held.writes
 
+-- how many families of the key are kept
 abbrev pub kept_of : Watched → ℕ
 kept_of watched = kept_in watched.state
 

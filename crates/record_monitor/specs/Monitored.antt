@@ -27,22 +27,30 @@ Takes rows old row (Ok done) new = MayFollow rows row × HasTaken (rows ++ row �
 Takes rows old row (Err Memory) new = IsRefusedAfter rows row Memory × IsLost new
 Takes rows old row (Err refusal) new = IsRefusedAfter rows row refusal × (new ≡ old)
 
--- what it has found; the keys, by number; how many calls were begun; what is known of each key
+-- what the monitor has found
 abbrev pub reports_of : Option Taken → List Report
 reports_of None = []
 reports_of (Some taken) = taken.keys.reports.items
 
+-- the keys, by number
 abbrev pub keys_of : Option Taken → List (List ℕ)
 keys_of None = []
 keys_of (Some taken) = taken.keys.numbers
 
+-- how many calls were begun
 abbrev pub begun_of : Option Taken → ℕ
 begun_of None = 0
 begun_of (Some taken) = taken.calls.begun
 
+-- what is known of each key
 abbrev pub watched_of : Option Taken → List Watched
 watched_of None = []
 watched_of (Some taken) = taken.keys.watched.items
+
+-- for how many rows a read may be pending
+abbrev pub give_up_of : Option Taken → ℕ
+give_up_of None = 0
+give_up_of (Some taken) = taken.give_up
 
 -- what is left of what was kept, after a row
 abbrev pub left_of : Taken → Result ⊤ CallRefusal → Option Taken

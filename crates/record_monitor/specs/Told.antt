@@ -33,10 +33,11 @@ pub record EndedAs (was : ToldCall) (place : ℕ) (call : ToldCall) : Type 0 whe
   pub at : call.begun ≡ was.begun
   pub end : call.answered ≡ Some place
 
--- the rows have that note of the call; they answer it there
+-- the rows have that note of the call
 abbrev pub HasNoteAt : List Row → OpId → ToldNote → Type 0
 HasNoteAt rows op note = slice_get rows note.place ≡ Some (Note op note.tag)
 
+-- the rows answer the call at that place
 abbrev pub HasAnswerAt : List Row → OpId → ℕ → Type 0
 HasAnswerAt rows op place =
     (returned : Returned) × (slice_get rows place ≡ Some (Respond op returned))

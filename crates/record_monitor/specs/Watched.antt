@@ -1,12 +1,14 @@
 -- What is known of the keys of a record.
-use Rattle.std.specs.Prelude.{ℕ, ◌≡◌, ◌⊎◌, Bool, true, false, List, Some}
-use Rattle.std.specs.Prelude.{MatchOption, length, slice_get, Contains}
+use Rattle.std.specs.Prelude.{ℕ, ◌≡◌, ◌≤◌, ◌⊎◌, Bool, true, false, List, Some}
+use Rattle.std.specs.Prelude.{MatchOption, length, slice_get, take, Contains}
 use Rattle.tag.specs.declared.numbers.OpId.{OpId}
+use Rattle.recorder.specs.declared.part.Call.{Call}
 use Rattle.recorder.specs.declared.row.Row.{Row}
 use Rattle.recorder.specs.Histories.{HasResponse}
 use Rattle.recorder.specs.Orders.{IsLinearizable}
 use Rattle.recorder.specs.Records.{AreFirstSeen}
 use Rattle.monitored_key.specs.declared.judged.Judged.TheVariants as judged
+use Rattle.growing_parts.specs.PartsWithout.{IsPartWithout}
 use Rattle.monitored_key.specs.declared.judged.Refusal.{Refusal}
 use Rattle.record_monitor.specs.declared.report.Finding.TheVariants.{Refused, Undecided}
 use Rattle.record_monitor.specs.declared.report.Finding.TheVariants.{EndedAfterAll}
@@ -16,6 +18,7 @@ use Rattle.record_monitor.specs.declared.watched.Watched.{Watched}
 use Rattle.record_monitor.specs.declared.watched_keys.WatchedKeys.{WatchedKeys}
 use Rattle.record_monitor.specs.Followed.{AreTold, IsFollowed}
 use Rattle.record_monitor.specs.Judgements.{WasFound, WasJudged}
+use Rattle.record_monitor.specs.Waiting.{AreGivenUp}
 
 -- the key has that number: its place among the keys that were seen, or the place after them
 abbrev pub IsNumberOf : List (List ℕ) → List ℕ → ℕ → Type 0
@@ -36,6 +39,21 @@ pub record WasRefused (most : ℕ) (rows : List Row) (key : List ℕ) (number : 
   pub judged : WasJudged most rows key place (judged.Refused refusal)
   pub ordered : is_doubtful ≡ false → IsLinearizable judged.before
 
+-- the calls of the key by the rows before that place have an order, without the reads that were
+-- given up by then
+pub record HadOrder (most : ℕ) (rows : List Row) (key : List ℕ) (place : ℕ) : Type 0 where
+  pub within : place ≤ length rows
+  pub gone : List ℕ
+  pub given_up : AreGivenUp most (take place rows) gone
+  pub before : List Call
+  pub was : IsPartWithout (take place rows) key gone before
+  pub ordered : IsLinearizable before
+
+-- so it is before each refusal of the key of that number that is reported
+abbrev pub HadOrders : ℕ → List Row → List ℕ → ℕ → List Report → Type 0
+HadOrders most rows key number reports = (place : ℕ) (refusal : Refusal)
+    → HasReport reports place number (Refused refusal) → HadOrder most rows key place
+
 -- a doubt of the key is reported
 abbrev pub WasDoubted : List Report → ℕ → Type 0
 WasDoubted reports number =
@@ -54,14 +72,15 @@ pub record IsTrueReport (most : ℕ) (rows : List Row) (keys : List (List ℕ)) 
   pub found : WasFound most rows key report.place report.finding
 
 module _ (most : ℕ) (rows : List Row) (gone : List ℕ) where
-  -- the key is refused and that is reported, or it is followed; its doubt is reported; and what is
-  -- told of its calls is so
+  -- the key is refused and that is reported, or it is followed; its doubt is reported; without one
+  -- its calls had an order until it was refused; and what is told of its calls is so
   pub record IsWatched (reports : List Report) (number : ℕ) (key : List ℕ) (watched : Watched) :
       Type 0 where
     pub state : MatchOption watched.state
         (WasRefused most rows key number watched.is_doubtful reports)
         (IsFollowed rows key gone watched.is_doubtful)
     pub doubt : watched.is_doubtful ≡ true → WasDoubted reports number
+    pub ordered : watched.is_doubtful ≡ false → HadOrders most rows key number reports
     pub told : AreTold rows key watched
 
   -- the keys are those that the rows begin calls on; each is watched; all that is reported is so;

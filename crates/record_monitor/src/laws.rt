@@ -6,12 +6,14 @@ ghost use Rattle.recorder.specs.declared.part.Call.{Call};
 ghost use Rattle.recorder.specs.Histories.{IsWellFormed};
 ghost use Rattle.recorder.specs.Orders.{IsLinearizable};
 ghost use Rattle.recorder.specs.Records.{IsPart};
+ghost use Rattle.growing_parts.specs.PartsWithout.{IsPartWithout};
 ghost use Rattle.monitored_key.specs.declared.judged.Refusal.{Refusal};
 ghost use Rattle.record_monitor.specs.declared.report.Finding.TheVariants.{EndedAfterAll, Refused};
 ghost use Rattle.record_monitor.specs.declared.taken.Taken.{Taken};
 ghost use Rattle.record_monitor.specs.declared.watched.Watched.{Watched};
 ghost use Rattle.record_monitor.specs.Followed.{is_doubtful, is_refused};
-ghost use Rattle.record_monitor.specs.Monitored.{HasTaken, keys_of, reports_of, watched_of};
+ghost use Rattle.record_monitor.specs.Monitored.{HasTaken, give_up_of, keys_of, reports_of, watched_of};
+ghost use Rattle.record_monitor.specs.Waiting.{AreGivenUp};
 ghost use Rattle.record_monitor.specs.Watched.{HasReport};
 
 /// Without a report each key's calls are linearizable.
@@ -39,4 +41,17 @@ pub fn a_refused_key_has_no_order()
         → HasReport (reports_of monitor) place number (Refused refusal) → (key : List ℕ)
         × (slice_get (keys_of monitor) number ≡ Some key) × ((part : List Call)
         → IsPart (take (place + 1) rows) key part → IsLinearizable part → ⊥) }
+{}
+
+/// Until a refusal the calls had an order, if the key has no doubt: those by the rows before that place, without the
+/// reads that were given up by then.
+pub fn a_key_had_an_order_before_its_refusal()
+    ensures { (rows : List Row) (monitor : Option Taken) (place number : ℕ) (refusal : Refusal)
+        (key : List ℕ) (watched : Watched) → HasTaken rows monitor
+        → HasReport (reports_of monitor) place number (Refused refusal)
+        → slice_get (keys_of monitor) number ≡ Some key
+        → slice_get (watched_of monitor) number ≡ Some watched → is_doubtful watched ≡ false
+        → (gone : List ℕ) × AreGivenUp (give_up_of monitor) (take place rows) gone
+        × (before : List Call) × IsPartWithout (take place rows) key gone before
+        × IsLinearizable before }
 {}

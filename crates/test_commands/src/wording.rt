@@ -1,8 +1,8 @@
 //! Rows of command lines.
 use client_phases::ReadMode;
 use command_line::{
-    By, CheckAsked, Command, DecideAsked, DrawAsked, JustifyAsked, KeysAsked, Lines, RunAsked,
-    Shown, Usage, command,
+    By, CheckAsked, Command, DecideAsked, DrawAsked, JustifyAsked, KeysAsked, Lines, MonitorAsked,
+    RunAsked, Shown, Usage, command,
 };
 use std::alloc::{AllocError, Global};
 use test_rows::{Answer, text_said, words_of};
@@ -106,6 +106,17 @@ fn say_decision(out: &mut Answer, asked: &DecideAsked<'_>) {
     write!(out, ", most {most}{form}\n");
 }
 
+/// What is monitored, and how.
+fn say_monitoring(out: &mut Answer, asked: &MonitorAsked<'_>) {
+    let (history, give_up) = (asked.history.unwrap_or(""), asked.give_up);
+    let all = if asked.all { ", all" } else { "" };
+    let form = form_said(asked.form);
+    write!(
+        out,
+        "monitor of [{history}]{all}, give up {give_up}{form}\n"
+    );
+}
+
 /// What the command asks for.
 fn say_asked(out: &mut Answer, asked: &Command<'_>) {
     match asked {
@@ -117,6 +128,7 @@ fn say_asked(out: &mut Answer, asked: &Command<'_>) {
             out.push("\n");
         }
         Command::Justify(asked) => say_justification(out, asked),
+        Command::Monitor(asked) => say_monitoring(out, asked),
         Command::Simulate { script } => write!(out, "simulate of [{script}]\n"),
         Command::Trace { script, most } => write!(out, "trace of [{script}], most {most}\n"),
         Command::TracePage { script, most } => write!(out, "page of [{script}], most {most}\n"),

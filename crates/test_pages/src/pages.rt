@@ -108,14 +108,23 @@ pub fn say_legend(out: &mut Answer, page: &str) {
     out.push("\n");
 }
 
-/// Says the pictures, of which each lies in a box, and what stands outside.
+/// Says what stands in a box: a table, if all of the page is said, or a picture.
+fn say_box(out: &mut Answer, extent: Extent, text: &str) {
+    if text.starts_with("class=\"rows\"") {
+        if extent.frame {
+            say_tags(out, extent, text);
+        }
+    } else if extent.pictures {
+        say_picture(out, Picture { text });
+    }
+}
+
+/// Says the pictures and tables, of which each lies in a box, and what stands outside.
 fn say_boxes(out: &mut Answer, extent: Extent, text: &str) {
     for part in text.split("<div ") {
         match part.split_once("</div>") {
             Some((text, rest)) => {
-                if extent.pictures {
-                    say_picture(out, Picture { text });
-                }
+                say_box(out, extent, text);
                 say_tags(out, extent, rest);
             }
             None => say_tags(out, extent, part),

@@ -46,7 +46,7 @@ pub can_be_shown : (judged : Judged) (rows : List Row) (parts : KeyParts) (given
     → checked ≡ map (recorded_key given) parts → IsTogether judged checked t → CanBeShown rows t
 can_be_shown judged rows parts given checked (together.Ordered orders) are keys found =
     (parts, are, orders_of judged given parts orders.items (subst (λ (ks : List CheckedKey). AllZip (IsOwnOrder judged) ks orders.items) keys found))
-can_be_shown judged rows parts given checked (together.Refused key) are keys found = found.found.so
+can_be_shown judged rows parts given checked (together.Refused key count) are keys found = found.0.found.so
 can_be_shown judged rows parts given checked (together.Undecided key) are keys found = found.0.found.so
 
 -- no call needs no point
@@ -106,8 +106,8 @@ section_added numbered drawn n t words picture is targets calls of_hall faulty o
     )
 
 -- the section that says why a key without calls is refused
-pub others_added : (numbered : NumberedHistories) (key : JudgedKey) (hall : HallRows) (words : List ℕ) (faulty : List OpId)
+pub others_added : (numbered : NumberedHistories) (key : JudgedKey) (count : ℕ) (hall : HallRows) (words : List ℕ) (faulty : List OpId)
     → IsHallOfKey numbered (judgement_of key).one.key hall → IsWhy hall (judgement_of key) words faulty
-    → (old new : List ℕ) → new ≡ old ++ rendered (others_markup (together.Refused key) words) → Adds (IsSectionOfOthers numbered (together.Refused key)) old new
-others_added numbered key hall words faulty of_key why old new added =
-    (others_markup (together.Refused key) words, (hall, words, faulty, of_key, why, refl), added)
+    → (old new : List ℕ) → new ≡ old ++ rendered (others_markup (together.Refused key count) words) → Adds (IsSectionOfOthers numbered (together.Refused key count)) old new
+others_added numbered key count hall words faulty of_key why old new added =
+    (others_markup (together.Refused key count) words, (hall, words, faulty, of_key, why, refl), added)

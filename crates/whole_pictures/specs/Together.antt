@@ -1,5 +1,5 @@
--- What is found of keys together: an order of each, or the first that is refused, or the first
--- that is undecided.
+-- What is found of keys together: an order of each, or the first that is refused and how many are,
+-- or the first that is undecided.
 use Rattle.std.specs.Prelude.{ℕ, ◌≡◌, ◌<◌, Bool, true, false, List, [], ◌∷◌, Some, slice_get}
 use Rattle.std.specs.List.{AllZip}
 use Rattle.recorder.specs.Orders.{IsOrder}
@@ -8,7 +8,7 @@ use Rattle.parallel_keys.specs.CheckedKeys.{CheckedKey}
 use Rattle.cli.specs.declared.outcome.Found.{Found}
 use Rattle.cli.specs.declared.outcome.Found.TheVariants as found
 use Rattle.judged_keys.specs.Findings.{IsFinding, is_refused, is_undecided}
-use Rattle.judged_keys.specs.Judgements.{Judgement, judgement_of}
+use Rattle.judged_keys.specs.Judgements.{AreJudged, Judgement, judgement_of, refused_count}
 use Rattle.judged_keys.specs.declared.finding.Finding.{Finding}
 use Rattle.judged_keys.specs.declared.judged.Judged.{Judged}
 use Rattle.draw_command.specs.Drawings.{IsDrawnOrder}
@@ -38,18 +38,24 @@ module _ (judged : Judged) where
       pub is : Is j.finding ≡ true
       pub none_before : HasNoneBefore place
 
-  -- what is found of the keys together: the order of each; or the first that is refused; or, if
-  -- none is, the first that is undecided
+  -- so many of the keys are refused
+  abbrev pub HasRefused : List CheckedKey → ℕ → Type 0
+  HasRefused keys count =
+      (all : List Judgement) × AreJudged judged keys all × (count ≡ refused_count all)
+
+  -- what is found of the keys together: the order of each; or the first that is refused, and how
+  -- many are; or, if none is, the first that is undecided
   abbrev pub IsTogether : List CheckedKey → Together → Type 0
   IsTogether keys (together.Ordered orders) = AllZip IsOwnOrder keys orders.items
-  IsTogether keys (together.Refused key) = IsFirst is_refused keys (judgement_of key)
+  IsTogether keys (together.Refused key count) =
+      IsFirst is_refused keys (judgement_of key) × HasRefused keys count
   IsTogether keys (together.Undecided key) =
       IsFirst is_undecided keys (judgement_of key) × ((n : ℕ) → HasNoneBefore is_refused keys n)
 
 -- what was found of all, after that of one more hall
 abbrev pub found_with : Found → Together → Found
 found_with f (together.Ordered orders) = f
-found_with f (together.Refused key) = found.Refused
+found_with f (together.Refused key count) = found.Refused
 found_with found.Refused (together.Undecided key) = found.Refused
 found_with f (together.Undecided key) = found.Undecided
 

@@ -45,13 +45,13 @@ use Rattle.whole_pictures.specs.declared.words.TheConstants as word
 -- what is said of keys of which that was found together
 abbrev pub found_words : Together → List ℕ
 found_words (together.Ordered orders) = word.ONE_ORDER.now
-found_words (together.Refused key) = word.A_KEY_IS_REFUSED.now
+found_words (together.Refused key count) = word.A_KEY_IS_REFUSED.now
 found_words (together.Undecided key) = word.A_KEY_IS_UNDECIDED.now
 
 -- the class of such a section
 abbrev pub found_class : Together → List ℕ
 found_class (together.Ordered orders) = word.YES.now
-found_class (together.Refused key) = word.NO.now
+found_class (together.Refused key count) = word.NO.now
 found_class (together.Undecided key) = word.UNDECIDED.now
 
 -- the number of a hall, if there are several
@@ -70,10 +70,16 @@ key_markup targets calls key words =
     both (element tag.P (of_class word.WHY.now) (finding_said (judgement_of key)))
     (why_markup targets calls words)
 
--- the same of the key that is refused or undecided, if one is
+-- how many keys are refused, and where the others are drawn
+abbrev pub count_markup : ℕ → Markup
+count_markup count = element tag.P (of_class word.SUM.now) (both (text word.KEYS_REFUSED.now)
+    (both (text (decimal count)) (text word.WHY_THE_FIRST_IS.now)))
+
+-- the same of the key that is refused or undecided, if one is; above a refused one how many are
 abbrev pub reason_markup : List ℕ → List OpId → Together → List ℕ → Markup
 reason_markup targets calls (together.Ordered orders) words = nothing
-reason_markup targets calls (together.Refused key) words = key_markup targets calls key words
+reason_markup targets calls (together.Refused key count) words =
+    both (count_markup count) (key_markup targets calls key words)
 reason_markup targets calls (together.Undecided key) words = key_markup targets calls key words
 
 -- the section of a hall: its heading, what was found of a key that is refused or undecided, and
@@ -119,10 +125,10 @@ module _ (numbered : NumberedHistories) where
 
   -- the section of keys without calls, if one of them is refused
   abbrev pub IsSectionOfOthers : Together → Markup → Type 0
-  IsSectionOfOthers (together.Refused key) section = (hall : HallRows) × (words : List ℕ)
+  IsSectionOfOthers (together.Refused key count) section = (hall : HallRows) × (words : List ℕ)
       × (faulty : List OpId) × IsHallOfKey numbered (judgement_of key).one.key hall
       × IsWhy hall (judgement_of key) words faulty
-      × (section ≡ others_markup (together.Refused key) words)
+      × (section ≡ others_markup (together.Refused key count) words)
   IsSectionOfOthers t section = section ≡ nothing
 
 module _ (numbered : NumberedHistories) (drawn : Drawn) where

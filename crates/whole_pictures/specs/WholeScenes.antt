@@ -43,7 +43,7 @@ CanHavePoints rows order = (calls : List Call) → AreCallsOf rows calls
 -- found of the key that is refused or undecided
 abbrev pub CanBeShown : List Row → Together → Type 0
 CanBeShown rows (together.Ordered orders) = Justify rows orders.items
-CanBeShown rows (together.Refused key) = let j = judgement_of key in IsSo j.one j.finding
+CanBeShown rows (together.Refused key count) = let j = judgement_of key in IsSo j.one j.finding
 CanBeShown rows (together.Undecided key) = let j = judgement_of key in IsSo j.one j.finding
 
 -- one order of all calls of the hall, in which each key's calls keep their turn, and no reason
@@ -64,5 +64,6 @@ pub record IsNoOrder (hall : HallRows) (key : JudgedKey) (order : List OpId) (wo
 abbrev pub IsShownOf : HallRows → Together → List OpId → List ℕ → List OpId → Type 0
 IsShownOf hall (together.Ordered orders) order words faulty =
     IsOneOrder hall orders.items order words faulty
-IsShownOf hall (together.Refused key) order words faulty = IsNoOrder hall key order words faulty
+IsShownOf hall (together.Refused key count) order words faulty =
+    IsNoOrder hall key order words faulty
 IsShownOf hall (together.Undecided key) order words faulty = IsNoOrder hall key order words faulty

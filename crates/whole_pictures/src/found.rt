@@ -70,7 +70,7 @@ pub(crate) fn shown_of(
 {
     match together {
         Together::Ordered(orders) => one_order(alloc, hall, orders),
-        Together::Refused(key) => no_order(alloc, hall, key),
+        Together::Refused(key, _) => no_order(alloc, hall, key),
         Together::Undecided(key) => no_order(alloc, hall, key),
     }
 }

@@ -29,7 +29,7 @@ fn with(found: Found, together: &Together<'_>) -> Found
 {
     match together {
         Together::Ordered(_) => found,
-        Together::Refused(_) => Found::Refused,
+        Together::Refused(_, _) => Found::Refused,
         Together::Undecided(_) => match found {
             Found::Refused => Found::Refused,
             Found::Good => Found::Undecided,

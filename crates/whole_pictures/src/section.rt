@@ -229,7 +229,7 @@ fn draw_others(
         page.old.items page.new.items) }
 {
     match together {
-        Together::Refused(key) => {
+        Together::Refused(key, _) => {
             let hall = hall_of(task.numbered, key.one.key);
             let why = why_of(alloc, &hall, key)?;
             append_others(alloc, page, together, why.text.as_slice())

@@ -1,8 +1,9 @@
 //! Texts of sections.
 ghost use Rattle.std.specs.Prelude.{◌≡◌, ◌++◌, OnOk};
 ghost use Rattle.markup.specs.Markup.{rendered};
-ghost use Rattle.whole_pictures.specs.WholePages.{found_class, found_words, hall_words, heading_markup};
-ghost use Rattle.whole_pictures.specs.WholePages.{key_markup, reason_markup};
+ghost use Rattle.whole_pictures.specs.WholePages.{count_markup, found_class, found_words};
+ghost use Rattle.whole_pictures.specs.WholePages.{hall_words, heading_markup, key_markup};
+ghost use Rattle.whole_pictures.specs.WholePages.{reason_markup};
 
 use crate::together::Together;
 use crate::words;
@@ -11,6 +12,7 @@ use draw_command::{append_finding, append_why};
 use judged_keys::JudgedKey;
 use markup::{
     Attribute, AttributeName, Element, append_closing, append_number, append_opening, append_text,
+    open_of_class,
 };
 use std::alloc::Global;
 use tag::Memory;
@@ -21,7 +23,7 @@ pub(crate) fn found_words(together: &Together<'_>) -> &'static str
 {
     match together {
         Together::Ordered(_) => words::ONE_ORDER,
-        Together::Refused(_) => words::A_KEY_IS_REFUSED,
+        Together::Refused(_, _) => words::A_KEY_IS_REFUSED,
         Together::Undecided(_) => words::A_KEY_IS_UNDECIDED,
     }
 }
@@ -32,7 +34,7 @@ pub(crate) fn found_class(together: &Together<'_>) -> &'static str
 {
     match together {
         Together::Ordered(_) => words::YES,
-        Together::Refused(_) => words::NO,
+        Together::Refused(_, _) => words::NO,
         Together::Undecided(_) => words::UNDECIDED,
     }
 }
@@ -87,7 +89,20 @@ fn append_key(
     append_why(alloc, page, links, why)
 }
 
-/// Adds what was found of the key that is refused or undecided, if one is, and why.
+/// Says how many keys are refused, and where the others are drawn.
+#[tactic(auto, unfolding(markup::specs::Markup::rendered))]
+fn append_count(page: &mut Vec<u8>, count: usize) -> Result<(), Memory>
+    ensures { OnOk result (page.new.items ≡ page.old.items ++ rendered (count_markup count)) }
+{
+    open_of_class(page, Element::P, words::SUM)?;
+    append_text(page, words::KEYS_REFUSED)?;
+    append_number(page, count as u64)?;
+    append_text(page, words::WHY_THE_FIRST_IS)?;
+    append_closing(page, Element::P)
+}
+
+/// Adds what was found of the key that is refused or undecided, if one is, and why; above a refused one how
+/// many are.
 #[tactic(auto, unfolding(markup::specs::Markup::rendered))]
 pub(crate) fn append_reason(
     alloc: Global,
@@ -101,7 +116,10 @@ pub(crate) fn append_reason(
 {
     match together {
         Together::Ordered(_) => Ok(()),
-        Together::Refused(key) => append_key(alloc, page, links, key, why),
+        Together::Refused(key, count) => {
+            append_count(page, *count)?;
+            append_key(alloc, page, links, key, why)
+        }
         Together::Undecided(key) => append_key(alloc, page, links, key, why),
     }
 }

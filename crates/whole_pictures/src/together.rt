@@ -9,7 +9,7 @@ ghost use Rattle.draw_command.specs.Drawings.{IsDrawnOrder};
 ghost use Rattle.whole_pictures.specs.Together.{IsOwnOrder, IsTogether};
 
 use draw_command::drawn_order;
-use judged_keys::{Judged, JudgedKey, judge};
+use judged_keys::{Judged, JudgedKey, find_each, judge};
 use parallel_keys::KeyToCheck;
 use recorder::{KeyOrder, Order};
 use std::alloc::Global;
@@ -20,8 +20,8 @@ use tag::{Key, Memory, OpId};
 pub(crate) enum Together<'a> {
     /// Each has an order: these.
     Ordered(Vec<KeyOrder>),
-    /// This one is refused, and none before it.
-    Refused(JudgedKey<'a>),
+    /// This one is refused, and none before it; so many are refused in all.
+    Refused(JudgedKey<'a>, usize),
     /// None is refused, and this one is the first that is undecided.
     Undecided(JudgedKey<'a>),
 }
@@ -75,7 +75,7 @@ fn keep<'a>(
     }
 }
 
-/// Judges the keys in turn, up to the first that is refused.
+/// Judges the keys in turn, up to the first that is refused; if one is, all, to count those that are.
 pub(crate) fn judge_together<'a>(
     alloc: Global,
     judged: Judged,
@@ -89,7 +89,8 @@ pub(crate) fn judge_together<'a>(
         let finding = judge(alloc, judged, one)?;
         let key = JudgedKey { one, finding };
         if finding.is_refused() {
-            return Ok(Together::Refused(key));
+            let all = find_each(alloc, judged, keys)?;
+            return Ok(Together::Refused(key, all.refused));
         }
         let own = own_order(alloc, judged, &key)?;
         undecided = keep(&mut orders, undecided, key, own)?;

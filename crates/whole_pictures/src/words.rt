@@ -11,6 +11,8 @@ pub(crate) const UNDECIDED: &str = "undecided";
 
 pub(crate) const WHY: &str = "why";
 
+pub(crate) const SUM: &str = "sum";
+
 pub(crate) const HALL: &str = "Hall ";
 
 pub(crate) const COMMA: &str = ", ";
@@ -22,6 +24,11 @@ pub(crate) const ONE_ORDER: &str = "one order of all calls";
 pub(crate) const A_KEY_IS_REFUSED: &str = "a key is refused";
 
 pub(crate) const A_KEY_IS_UNDECIDED: &str = "a key is undecided";
+
+pub(crate) const KEYS_REFUSED: &str = "Keys refused: ";
+
+pub(crate) const WHY_THE_FIRST_IS: &str =
+    ". Below is why the first is refused; abd draw without --whole draws the keys one by one, refused ones first.";
 
 pub(crate) const NO_CALLS: &str = "Keys without calls";
 

@@ -19,6 +19,7 @@ returns c =
     let with_draw = added _ _ _ _ _ with_decide c.in_ok-draw_words.ensures c.in_ok-words-3.ensures in
     let with_explain = added _ _ _ _ _ with_draw c.in_ok-explain_words.ensures c.in_ok-words-4.ensures in
     let with_justify = added _ _ _ _ _ with_explain c.in_ok-justify_words.ensures c.in_ok-words-5.ensures in
-    let with_simulate = added _ _ _ _ _ with_justify c.in_ok-simulate_words.ensures c.in_ok-words-6.ensures in
-    let with_trace = added _ _ _ _ _ with_simulate c.in_ok-trace_words.ensures c.in_ok-words-7.ensures in
-    IfOk-weaker c.subcommand-8.result _ _ (λ r adds. added _ _ r _ run_app with_trace c.in_ok-run_words.ensures adds) c.subcommand-8.ensures
+    let with_monitor = added _ _ _ _ _ with_justify c.in_ok-monitor_words.ensures c.in_ok-words-6.ensures in
+    let with_simulate = added _ _ _ _ _ with_monitor c.in_ok-simulate_words.ensures c.in_ok-words-7.ensures in
+    let with_trace = added _ _ _ _ _ with_simulate c.in_ok-trace_words.ensures c.in_ok-words-8.ensures in
+    IfOk-weaker c.subcommand-9.result _ _ (λ r adds. added _ _ r _ run_app with_trace c.in_ok-run_words.ensures adds) c.subcommand-9.ensures

@@ -6,14 +6,14 @@ use Rattle.whole_pictures.proofs.Showing.{others_added}
 use Rattle.whole_pictures.proofs.section.draw_others.Goals as goal
 
 pub why_of-requires : goal.why_of-requires
-why_of-requires c = (rw c.in-Refused.is at c.requires.found.1).found.so
+why_of-requires c = (rw c.in-Refused.is at c.requires.found.1).0.found.so
 
 pub returns-in_ok-why-in-Refused : goal.returns-in_ok-why-in-Refused
 returns-in_ok-why-in-Refused c =
     let why = c.in_ok-why-in-Refused.why in
     rw c.in-Refused.is
     (on_ok_weaker c.append_others.result
-    (others_added c.args.task.now.numbered.now c.in-Refused.key c.hall_of-hall.result why.text.items why.faulty.items c.hall_of-hall.ensures
+    (others_added c.args.task.now.numbered.now c.in-Refused.key _ c.hall_of-hall.result why.text.items why.faulty.items c.hall_of-hall.ensures
     c.in_ok-why-in-Refused.ensures _ _)
     (rw (c.as_slice.ensures.value, c.in-Refused.is) at c.append_others.ensures))
 

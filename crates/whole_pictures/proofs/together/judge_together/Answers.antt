@@ -31,13 +31,16 @@ pub returns-then-is_refused : goal.returns-then-is_refused
 returns-then-is_refused c =
     let keys = c.args.keys.now in
     let i = c.loop-one.one-index in
-    record {
-      place = i;
-      there = next_key keys i c.one-item.result c.loop-one-test.true c.one-item.is;
-      found = c.in_ok-finding.ensures;
-      is = sym c.is_refused.ensures ∙ c.if-is_refused.true;
-      none_before = c.loop-one.invariant.taken;
-    }
+    let all = c.in_ok-all.ensures in (
+      record {
+        place = i;
+        there = next_key keys i c.one-item.result c.loop-one-test.true c.one-item.is;
+        found = c.in_ok-finding.ensures;
+        is = sym c.is_refused.ensures ∙ c.if-is_refused.true;
+        none_before = c.loop-one.invariant.taken;
+      },
+      (all.all, all.judged_are, all.refused),
+    )
 
 pub returns-in-None : goal.returns-in-None
 returns-in-None c =

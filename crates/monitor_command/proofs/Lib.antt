@@ -1,0 +1,5 @@
+mod Refusals
+mod Reports
+mod Sent
+mod Judging
+mod Loop

@@ -1,0 +1,66 @@
+-- A file that is read block by block.
+use Rattle.std.proofs.Common.{ℕ, ◌≡◌, ◌++◌, List, [], true, false, Option, Result, Ok, Err}
+use Rattle.std.specs.Io.KnownBytes.{Consumes, IsAtEnd}
+use Rattle.cli.specs.declared.outcome.Found.{Found}
+use Rattle.cli.specs.declared.outcome.Found.TheVariants.{Good, Refused, Undecided}
+use Rattle.command_line.specs.declared.lines.Lines.{Lines}
+use Rattle.counted_devices.specs.DeviceStates.{DeviceStates}
+use Rattle.counted_devices.specs.Deliveries.{Delivers, Holds}
+use Rattle.counted_devices.proofs.Consuming.{Consumes-keeps}
+use Rattle.counted_devices.proofs.Delivering.{Delivers-more, finish_fault, stops_now}
+use Rattle.file_format.specs.Files.{file_faults}
+use Rattle.file_format.specs.LongHistories.{long_history_format}
+use Rattle.line_files.proofs.Filling.{keeps_of_none}
+use Rattle.monitor_command.specs.declared.monitoring.Monitoring.{Monitoring}
+use Rattle.monitor_command.specs.declared.session.Stopped.{Stopped}
+use Rattle.monitor_command.specs.declared.session.Stopped.TheVariants as stopped
+use Rattle.monitor_command.specs.Endings.{EndsAs, EndsIn, GoesOn, HasSent, IsFoundOf, IsRefutedIn, Stands}
+use Rattle.monitor_command.proofs.Judging.{RowsFed}
+use Rattle.monitor_command.proofs.Sent.{refused_last}
+
+-- a block more
+pub stands_more : (a b c p q : Option (List ℕ)) (form : Lines) (block : List ℕ) (old new : RowsFed) → Holds Stands a b old → Consumes b c block
+    → ((bytes : List ℕ) → Stands bytes old → GoesOn p q form (bytes ++ block) (Ok false) new) → Holds Stands a c new
+stands_more a b c p q form block old new h k goes =
+    let P : List ℕ → Type 0 = λ bytes. Stands bytes old in
+    let Q : List ℕ → Type 0 = λ bytes. Stands bytes new in
+    Delivers-more P Q a b c block h k goes
+
+-- no byte more
+pub stands_still : (a b c : Option (List ℕ)) (feed : RowsFed) → Holds Stands a b feed → Consumes b c [] → Holds Stands a c feed
+stands_still a b c feed h none = record { bytes = h.bytes; given = Consumes-keeps a b c h.bytes h.given (keeps_of_none b c none); fact = h.fact }
+
+module _ (reader writer : DeviceStates) (asked : Monitoring) (mid : Option (List ℕ)) (feed : RowsFed) where
+  module _ (before : Option (List ℕ)) (block : List ℕ) (new : RowsFed) where
+    -- the block has a fault, or the command stopped at it
+    pub stops_at : (why : Stopped) → Holds Stands reader.old before feed → Consumes before reader.new block
+        → ((bytes : List ℕ) → Stands bytes feed → GoesOn mid writer.new asked.form (bytes ++ block) (Err why) new) → EndsIn reader writer asked (Err why)
+    stops_at (stopped.Fault fault) h k goes =
+        let P : List ℕ → Type 0 = λ bytes. Stands bytes feed in
+        (stops_now (file_faults long_history_format) reader fault P before block h k goes).0
+    stops_at stopped.Memory h k goes = tt
+    stops_at stopped.Output h k goes = tt
+
+    -- by the block a key is refused
+    pub refused_by : Holds Stands reader.old before feed → Consumes before reader.new block → HasSent writer.old mid
+        → ((bytes : List ℕ) → Stands bytes feed → GoesOn mid writer.new asked.form (bytes ++ block) (Ok true) new) → IsRefutedIn reader writer asked
+    refused_by h k sent goes =
+        let P : List ℕ → Type 0 = λ bytes. Stands bytes feed in
+        let Q : List ℕ → Type 0 = λ bytes. IsFoundOf writer.old writer.new asked bytes Refused in
+        Delivers-more P Q reader.old before reader.new block h k
+        (λ bytes s. ((goes bytes s).refuted, λ one. refused_last writer.old mid writer.new asked.form (bytes ++ block) sent (goes bytes s)))
+
+  -- the reader is at its end
+  pub ends_in : (result : Result Found Stopped) → Holds Stands reader.old reader.new feed → IsAtEnd reader.new → HasSent writer.old mid
+      → ((bytes : List ℕ) → Stands bytes feed → EndsAs mid writer.new asked bytes result) → EndsIn reader writer asked result
+  ends_in (Ok Good) h end sent ends = record { bytes = h.bytes; given = h.given; fact = (end, ends h.bytes h.fact) }
+  ends_in (Ok Refused) h end sent ends = record {
+    bytes = h.bytes;
+    given = h.given;
+    fact = ((ends h.bytes h.fact).0, λ one. refused_last writer.old mid writer.new asked.form h.bytes sent ((ends h.bytes h.fact).1 one));
+  }
+  ends_in (Ok Undecided) h end sent ends = tt
+  ends_in (Err (stopped.Fault fault)) h end sent ends =
+      finish_fault (file_faults long_history_format) Stands (λ (_ : List ℕ) (_ : Unit {0}). Unit {0}) reader feed (Err fault) (h, end) ends
+  ends_in (Err stopped.Memory) h end sent ends = tt
+  ends_in (Err stopped.Output) h end sent ends = tt

@@ -1,0 +1,117 @@
+-- How a monitored file ends.
+use Rattle.std.specs.Prelude.{ℕ, ◌≡◌, ◌++◌, List, Bool, true, false, Option, Result, Ok, Err}
+use Rattle.std.specs.Io.KnownBytes.{Appends, IsAtEnd}
+use Rattle.cli.specs.Devices.{FileStates, ReceivesOrFails}
+use Rattle.cli.specs.FailureLines.{fault_line, file_words}
+use Rattle.cli.specs.declared.outcome.Found.{Found}
+use Rattle.cli.specs.declared.outcome.Found.TheVariants.{Good, Refused, Undecided}
+use Rattle.command_line.specs.declared.lines.Lines.{Lines}
+use Rattle.counted_devices.specs.Deliveries.{Delivers}
+use Rattle.counted_devices.specs.DeviceStates.{DeviceStates}
+use Rattle.counted_devices.specs.FirstFaults.{FaultInAll, FaultSoFar, StopsFrom}
+use Rattle.counted_devices.specs.declared.read_fault.FaultKind.TheVariants as kind
+use Rattle.file_format.specs.Faults.{FaultKind, FileFault}
+use Rattle.file_format.specs.Files.{file_faults}
+use Rattle.file_format.specs.LongHistories.{long_history_format}
+use Rattle.history_file.specs.TakenRows.{MakesLongHistory}
+use Rattle.history_file.specs.declared.taken_rows.LongHistory.{LongHistory}
+use Rattle.file_format.specs.declared.fault.LineFault.{LineFault}
+use Rattle.line_files.specs.Feeds.{StandsForLines}
+use Rattle.line_files.specs.declared.feed.Feed.{Feed}
+use Rattle.record_monitor.specs.declared.taken.Taken.{Taken}
+use Rattle.record_monitor.specs.Monitored.{HasTaken}
+use Rattle.monitor_command.specs.declared.monitoring.Monitoring.{Monitoring}
+use Rattle.monitor_command.specs.declared.session.Stopped.{Stopped}
+use Rattle.monitor_command.specs.declared.session.Stopped.TheVariants as stopped
+use Rattle.monitor_command.specs.Files.{HasSeen, IsAtomicFile, IsRefuted}
+use Rattle.monitor_command.specs.Tellings.{EndsWithRefusal}
+
+-- the feed stands for the bytes, and its monitor has taken the rows of their whole lines
+abbrev pub Stands : List ℕ → Feed (LongHistory (Option Taken)) LineFault → Type 0
+Stands bytes feed = StandsForLines (MakesLongHistory HasTaken) bytes feed
+
+-- whether an allocation was refused
+abbrev pub is_memory : FaultKind → Bool
+is_memory kind.Memory = true
+is_memory k = false
+
+-- the file isn't at fault
+abbrev pub IsNoFault : Stopped → Type 0
+IsNoFault (stopped.Fault fault) = ⊥
+IsNoFault stopped.Memory = Unit {0}
+IsNoFault stopped.Output = Unit {0}
+
+-- what went out between two states of a writer
+module _ (old new : Option (List ℕ)) where
+  -- some text, and nothing failed
+  pub record HasSent : Type 0 where
+    pub text : List ℕ
+    pub sent : Appends old new text
+
+  -- it ends with what is told of a refusal by the monitor
+  pub record TellsRefusal (form : Lines) (monitor : Option Taken) : Type 0 where
+    pub text : List ℕ
+    pub ends : EndsWithRefusal form monitor text
+    pub sent : Appends old new text
+
+  -- a key is refused by what has seen the bytes, and what went out ends with what is told of that
+  pub record IsRefusedAndTold (form : Lines) (bytes : List ℕ) : Type 0 where
+    pub refuted : IsRefuted bytes
+    pub monitor : Option Taken
+    pub seen : HasSeen bytes monitor
+    pub told : TellsRefusal form monitor
+
+  -- after a block the feed stands for all bytes; or a key is refused, and the command ends; or the
+  -- first fault of the lines so far is answered
+  abbrev pub GoesOn : Lines → List ℕ → Result Bool Stopped
+      → Feed (LongHistory (Option Taken)) LineFault → Type 0
+  GoesOn form bytes (Ok false) feed = Stands bytes feed
+  GoesOn form bytes (Ok true) feed = IsRefusedAndTold form bytes
+  GoesOn form bytes (Err (stopped.Fault fault)) feed =
+      FaultSoFar (file_faults long_history_format) bytes fault.line fault.kind
+  GoesOn form bytes (Err stopped.Memory) feed = Unit {0}
+  GoesOn form bytes (Err stopped.Output) feed = Unit {0}
+
+  -- what is found of all the bytes; that a key is refused was told last, unless all keys are
+  -- judged on
+  abbrev pub IsFoundOf : Monitoring → List ℕ → Found → Type 0
+  IsFoundOf asked bytes Good = IsAtomicFile bytes
+  IsFoundOf asked bytes Refused =
+      IsRefuted bytes × (asked.all ≡ false → IsRefusedAndTold asked.form bytes)
+  IsFoundOf asked bytes Undecided = Unit {0}
+
+  -- at the end of the file that is found; or its first fault is answered
+  abbrev pub EndsAs : Monitoring → List ℕ → Result Found Stopped → Type 0
+  EndsAs asked bytes (Ok found) = IsFoundOf asked bytes found
+  EndsAs asked bytes (Err (stopped.Fault fault)) =
+      FaultInAll (file_faults long_history_format) bytes fault.line fault.kind
+  EndsAs asked bytes (Err stopped.Memory) = Unit {0}
+  EndsAs asked bytes (Err stopped.Output) = Unit {0}
+
+-- the reader gave all of a history, and each key is atomic
+abbrev pub IsAtomicIn : DeviceStates → Type 0
+IsAtomicIn reader =
+    Delivers reader.old reader.new (λ bytes. IsAtEnd reader.new × IsAtomicFile bytes)
+
+-- a reader and a writer, before and after
+module _ (reader writer : DeviceStates) where
+  -- of what the reader gave, a key is refused; that was told last, unless all keys are judged on
+  abbrev pub IsRefutedIn : Monitoring → Type 0
+  IsRefutedIn asked = Delivers reader.old reader.new
+      (λ bytes. IsFoundOf writer.old writer.new asked bytes Refused)
+
+  -- that is found of what the reader gave; or the first fault is answered
+  abbrev pub EndsIn : Monitoring → Result Found Stopped → Type 0
+  EndsIn asked (Ok Good) = IsAtomicIn reader
+  EndsIn asked (Ok Refused) = IsRefutedIn asked
+  EndsIn asked (Ok Undecided) = Unit {0}
+  EndsIn asked (Err (stopped.Fault fault)) =
+      StopsFrom (file_faults long_history_format) reader fault
+  EndsIn asked (Err stopped.Memory) = Unit {0}
+  EndsIn asked (Err stopped.Output) = Unit {0}
+
+-- the file has that first fault, and that is said on standard error
+pub record IsFaultSaid (file : FileStates) (errors : DeviceStates) : Type 0 where
+  pub fault : FileFault
+  pub first : StopsFrom (file_faults long_history_format) file.reader fault
+  pub said : ReceivesOrFails errors (fault_line file_words file.name fault)

@@ -1,0 +1,4 @@
+pub mod Stops
+pub mod Files
+pub mod Tellings
+pub mod Endings

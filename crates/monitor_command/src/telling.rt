@@ -1,0 +1,219 @@
+//! What a monitor reported, as it is told.
+ghost use Rattle.std.specs.Prelude.{◌≡◌, ◌++◌, ℕ, [], List, true, IfOk, OnOk, slice_get};
+ghost use Rattle.std.specs.Option.{option_copied};
+ghost use Rattle.cli.specs.declared.outcome.Found.TheVariants.{Good, Refused};
+ghost use Rattle.record_monitor.specs.Monitored.{keys_of, reports_of};
+ghost use Rattle.monitor_command.specs.Files.{HasRefusal};
+ghost use Rattle.monitor_command.specs.Tellings.{EndsWithRefusal, Tells, TellsReport, doubt_text, ended_text};
+ghost use Rattle.monitor_command.specs.Tellings.{is_refusal, key_text, refusal_text};
+
+use crate::monitoring::Monitoring;
+use cli::Found;
+use command_line::Lines;
+use monitor_sentences::{
+    Counts, append_end, append_end_object, append_given_up, append_given_up_object, append_refused,
+    append_refused_object, append_undecided, append_undecided_object,
+};
+use record_monitor::{Finding, RecordMonitor, Report, Told};
+use std::alloc::Global;
+use tag::{Memory, OpId};
+use value_order::Doubt;
+
+/// Tells that the key is refused.
+fn append_refusal(
+    text: &mut Vec<u8>,
+    form: Lines,
+    key: &str,
+    place: u64,
+    told: Option<&Told>,
+) -> Result<(), Memory>
+    ensures { OnOk result (text.new.items
+        ≡ text.old.items ++ refusal_text key.now place form (option_copied told.entry)) }
+{
+    match form {
+        Lines::Plain => append_refused(text, key, place, told),
+        Lines::Json => append_refused_object(text, key, place, told),
+    }
+}
+
+/// Tells that a read of the key is undecided.
+fn append_doubt(
+    text: &mut Vec<u8>,
+    form: Lines,
+    key: &str,
+    place: u64,
+    doubt: Doubt,
+) -> Result<(), Memory>
+    ensures { OnOk result
+        (text.new.items ≡ text.old.items ++ doubt_text key.now place form doubt) }
+{
+    match form {
+        Lines::Plain => append_undecided(text, key, place, doubt),
+        Lines::Json => append_undecided_object(text, key, place, doubt),
+    }
+}
+
+/// Tells that a read of the key was given up, and is answered after all.
+fn append_ended(
+    text: &mut Vec<u8>,
+    form: Lines,
+    key: &str,
+    place: u64,
+    read: OpId,
+) -> Result<(), Memory>
+    ensures { OnOk result
+        (text.new.items ≡ text.old.items ++ ended_text key.now place form read) }
+{
+    match form {
+        Lines::Plain => append_given_up(text, key, place, read),
+        Lines::Json => append_given_up_object(text, key, place, read),
+    }
+}
+
+/// Tells what was found of the key.
+fn append_finding(
+    text: &mut Vec<u8>,
+    form: Lines,
+    key: &str,
+    place: u64,
+    told: Option<&Told>,
+    finding: Finding,
+) -> Result<(), Memory>
+    ensures { OnOk result ((lines : List ℕ)
+        × Tells key.now place form (option_copied told.entry) finding lines
+        × (text.new.items ≡ text.old.items ++ lines)) }
+{
+    match finding {
+        Finding::Refused(_) => append_refusal(text, form, key, place, told),
+        Finding::Undecided(read, one, two) => {
+            let doubt = Doubt {
+                read,
+                first: OpId(one.min(two)),
+                second: OpId(one.max(two)),
+            };
+            append_doubt(text, form, key, place, doubt)
+        }
+        Finding::EndedAfterAll(read) => append_ended(text, form, key, place, read),
+    }
+}
+
+/// The text of the key of that number; none has no letters.
+fn key_text(monitor: &RecordMonitor, number: usize) -> &str
+    ensures { result.now ≡ key_text (slice_get (keys_of monitor.now) number) }
+{
+    match monitor.keys().get(number) {
+        Some(key) => key.as_str(),
+        None => "",
+    }
+}
+
+/// Tells what was reported.
+fn append_report(
+    text: &mut Vec<u8>,
+    form: Lines,
+    monitor: &RecordMonitor,
+    report: &Report,
+) -> Result<(), Memory>
+    ensures { OnOk result ((lines : List ℕ) × TellsReport form monitor.now report.now lines
+        × (text.new.items ≡ text.old.items ++ lines)) }
+{
+    let key = key_text(monitor, report.key);
+    let told = monitor.told(report.key);
+    append_finding(text, form, key, report.place, told, report.finding)
+}
+
+/// Whether the report is a refusal.
+fn is_refusal(report: &Report) -> bool
+    ensures { result ≡ is_refusal report.now.finding }
+{
+    matches!(report.finding, Finding::Refused(_))
+}
+
+/// Tells what was reported beyond so many reports, up to the first refusal, unless all is asked for. Whether that was
+/// told, and the command ends.
+pub(crate) fn append_new(
+    text: &mut Vec<u8>,
+    monitor: &RecordMonitor,
+    told: usize,
+    asked: Monitoring,
+) -> Result<bool, Memory>
+    ensures { IfOk result (λ stops. stops ≡ true
+        → EndsWithRefusal asked.form monitor.now text.new.items) }
+{
+    let reports = monitor.reports();
+    for number in told..reports.len() {
+        let report = &reports[number];
+        append_report(text, asked.form, monitor, report)?;
+        if !asked.all && is_refusal(report) {
+            return Ok(true);
+        }
+    }
+    Ok(false)
+}
+
+/// Whether a refusal is among the reports.
+fn has_refusal(reports: &[Report]) -> bool
+    ensures { result ≡ true → HasRefusal reports.now }
+{
+    for report in reports {
+        if is_refusal(report) {
+            return true;
+        }
+    }
+    false
+}
+
+/// Marks the keys that a report is of, if it is a refusal, or if it is none.
+fn mark_keys(marks: &mut [bool], reports: &[Report], refusals: bool, mark: bool) {
+    for report in reports {
+        if is_refusal(report) == refusals
+            && let Some(key) = marks.get_mut(report.key)
+        {
+            *key = mark;
+        }
+    }
+}
+
+/// How many keys aren't refused, but have an undecided read, or one that was answered after it was given up.
+fn count_doubts(alloc: Global, monitor: &RecordMonitor) -> Result<u64, Memory> {
+    let mut marks = vec![in alloc; false; monitor.keys().len()]?;
+    mark_keys(marks.as_mut_slice(), monitor.reports(), false, true);
+    mark_keys(marks.as_mut_slice(), monitor.reports(), true, false);
+    Ok(marks.iter().filter(|mark| **mark).count() as u64)
+}
+
+/// Tells how many calls on how many keys there were, and how many of these are refused or have a doubt.
+pub(crate) fn append_counts(
+    alloc: Global,
+    text: &mut Vec<u8>,
+    monitor: &RecordMonitor,
+    form: Lines,
+) -> Result<(), Memory> {
+    let counts = Counts {
+        refused: monitor.refused_count() as u64,
+        doubtful: count_doubts(alloc, monitor)?,
+        keys: monitor.keys().len() as u64,
+        calls: monitor.begun(),
+    };
+    match form {
+        Lines::Plain => append_end(text, counts),
+        Lines::Json => append_end_object(text, counts),
+    }
+}
+
+/// What is found of all keys of a file that came to its end: nothing is wrong only if nothing was reported. Unless all
+/// keys are judged on, the command ended before if a key was refused.
+pub(crate) fn found_by(monitor: &RecordMonitor, all: bool) -> Found
+    ensures good { result ≡ Good → reports_of monitor.now ≡ [] }
+    ensures refused { result ≡ Refused → HasRefusal (reports_of monitor.now) }
+    ensures all { result ≡ Refused → all ≡ true }
+{
+    let reports = monitor.reports();
+    if reports.is_empty() {
+        Found::Good
+    } else if all && has_refusal(reports) {
+        Found::Refused
+    } else {
+        Found::Undecided
+    }
+}
