@@ -183,6 +183,7 @@ def toy_stores(abd):
 
 
 def main():
+    signal.signal(signal.SIGINT, signal.default_int_handler)  # who starts this may ignore Ctrl-C, and what it starts would too
     abd = os.path.abspath(sys.argv[1])
     bad = False
     for rows in (full_pipes, odd_pieces, readers_that_end, interrupted, writers_that_end, growing_file, toy_stores):
