@@ -3,3 +3,4 @@ pub mod Pruning
 pub mod Finding
 pub mod Maps
 pub mod Steps
+pub mod Slots

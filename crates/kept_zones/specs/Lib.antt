@@ -1,3 +1,4 @@
 pub mod Overwriting
+pub mod Places
 pub mod Nearest
 pub mod Indexes

@@ -3,7 +3,7 @@ ghost use Rattle.std.specs.Prelude.{◌≡◌, Some, MatchBool, OnOk, OnErr};
 ghost use Rattle.kept_zones.specs.Indexes.{ArePruned, HoldsOne, IsDone, IsHeld, IsLower, IsRising, IsRisingAfter};
 ghost use Rattle.kept_zones.specs.Overwriting.{last_of};
 
-use crate::nearest::{Places, first_after, last_up_to};
+use crate::places::Places;
 use tag::Memory;
 
 /// Takes out the zones that hold the one of that first end.
@@ -13,11 +13,11 @@ fn prune(inner: &mut Places, end: u64, last: u64)
     ensures pruned { ArePruned (last_of inner.old.entries) end last (last_of inner.new.entries) }
     ensures done { IsDone (last_of inner.new.entries) end last }
 {
-    'each: while let Some((place, begin)) = first_after(inner, end) {
+    'each: while let Some((place, begin)) = inner.first_after(end) {
         if begin > last {
             return;
         }
-        inner.remove(&place);
+        inner.remove(place);
     }
 }
 
@@ -27,7 +27,7 @@ fn holds(inner: &Places, end: u64, last: u64) -> bool
     ensures { MatchBool result (HoldsOne (last_of inner.now.entries) end last)
         (IsLower (last_of inner.now.entries) end last) }
 {
-    match last_up_to(inner, end) {
+    match inner.last_up_to(end) {
         Some((_, begin)) => last <= begin,
         None => false,
     }

@@ -6,6 +6,9 @@
 
 mod inner;
 mod nearest;
+mod places;
+mod slot;
 mod zones;
 
+pub use places::Places;
 pub use zones::Zones;

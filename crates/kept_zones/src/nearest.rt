@@ -4,11 +4,14 @@ ghost use Rattle.kept_zones.specs.Nearest.{IsFirstAfter, IsFirstOfAll, IsLastBef
 use std::collections::BTreeMap;
 use std::ops::Bound;
 
-/// A map from places to places.
-pub(crate) type Places = BTreeMap<u64, u64>;
+/// A place with what is there.
+pub type Entry = (u64, u64);
+
+/// A tree of places.
+pub(crate) type Tree = BTreeMap<u64, u64>;
 
 /// The last entry before the place.
-pub(crate) fn last_before(places: &Places, place: u64) -> Option<(u64, u64)>
+pub(crate) fn last_before(places: &Tree, place: u64) -> Option<Entry>
     ensures { IsLastBefore places.now.entries place result }
 {
     match places.range(..place).next_back() {
@@ -18,7 +21,7 @@ pub(crate) fn last_before(places: &Places, place: u64) -> Option<(u64, u64)>
 }
 
 /// The last entry up to the place.
-pub(crate) fn last_up_to(places: &Places, place: u64) -> Option<(u64, u64)>
+pub(crate) fn last_up_to(places: &Tree, place: u64) -> Option<Entry>
     ensures { IsLastUpTo places.now.entries place result }
 {
     match places.range(..=place).next_back() {
@@ -28,7 +31,7 @@ pub(crate) fn last_up_to(places: &Places, place: u64) -> Option<(u64, u64)>
 }
 
 /// The first entry after the place.
-pub(crate) fn first_after(places: &Places, place: u64) -> Option<(u64, u64)>
+pub(crate) fn first_after(places: &Tree, place: u64) -> Option<Entry>
     ensures { IsFirstAfter places.now.entries place result }
 {
     match places
@@ -41,7 +44,7 @@ pub(crate) fn first_after(places: &Places, place: u64) -> Option<(u64, u64)>
 }
 
 /// The first entry.
-pub(crate) fn first_of_all(places: &Places) -> Option<(u64, u64)>
+pub(crate) fn first_of_all(places: &Tree) -> Option<Entry>
     ensures { IsFirstOfAll places.now.entries result }
 {
     match places.first_key_value() {

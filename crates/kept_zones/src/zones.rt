@@ -6,9 +6,8 @@ ghost use Rattle.kept_zones.specs.Overwriting.{AreBefore, HasZone, IsFreeTo, Lac
 ghost use Rattle.kept_zones.specs.Overwriting.{IsOverwritten, IsSpent, NoneSpent, Overwrites};
 
 use crate::inner::hold;
-use crate::nearest::{Places, first_after, first_of_all, last_before};
+use crate::places::Places;
 use std::alloc::Global;
-use std::collections::BTreeMap;
 use std::marker::Model;
 use tag::Memory;
 
@@ -56,7 +55,7 @@ fn reaching(forward: &Places, end: u64, place: u64) -> Option<u64>
         (λ w. (last : ℕ) × IsLastBefore forward.now.entries end (Some (w, last))
         × (end < last) × (w < place)) }
 {
-    let found = last_before(forward, end);
+    let found = forward.last_before(end);
     if let Some((first, last)) = found {
         if end < last && first < place {
             return Some(first);
@@ -71,7 +70,7 @@ fn following(forward: &Places, end: u64, place: u64) -> Option<u64>
         ((o : _) × IsFirstAfter forward.now.entries end o × Misses o (λ e. e.0 < place))
         (λ w. (last : ℕ) × IsFirstAfter forward.now.entries end (Some (w, last)) × (w < place)) }
 {
-    let found = first_after(forward, end);
+    let found = forward.first_after(end);
     if let Some((first, _)) = found {
         if first < place {
             return Some(first);
@@ -87,7 +86,7 @@ fn begun_after(inner: &Places, end: u64, place: u64) -> Option<u64>
         (λ w. (begin : ℕ) × IsLastBefore inner.now.entries place (Some (w, begin))
         × (end < begin)) }
 {
-    let found = last_before(inner, place);
+    let found = inner.last_before(place);
     if let Some((first, begin)) = found {
         if end < begin {
             return Some(first);
@@ -102,9 +101,9 @@ impl Zones {
         ensures { result ≡ record { zones = []; floor = 0 } }
     {
         Zones {
-            all: BTreeMap::new(alloc),
-            forward: BTreeMap::new(alloc),
-            inner: BTreeMap::new(alloc),
+            all: Places::new(alloc),
+            forward: Places::new(alloc),
+            inner: Places::new(alloc),
             floor: 0,
         }
     }
@@ -113,7 +112,7 @@ impl Zones {
     pub fn last(&self, end: u64) -> Option<u64>
         ensures { result ≡ last_of self.now.zones end }
     {
-        self.all.get(&end).copied()
+        self.all.get(end)
     }
 
     /// Adds the zone of a family that ended first just now. `Memory` leaves all as it was.
@@ -128,7 +127,7 @@ impl Zones {
         match self.all.insert(end, last) {
             Ok(_) => Ok(()),
             Err(_) => {
-                self.inner.remove(&end);
+                self.inner.remove(end);
                 Err(Memory)
             }
         }
@@ -184,11 +183,12 @@ impl Zones {
         ensures floor { (last : ℕ) → last_of self.old.zones end ≡ Some last
             → self.new.floor ≡ max self.old.floor last }
     {
-        let Some(last) = self.all.remove(&end) else {
+        let Some(last) = self.all.get(end) else {
             unreachable!()
         };
-        self.forward.remove(&end);
-        self.inner.remove(&end);
+        self.all.remove(end);
+        self.forward.remove(end);
+        self.inner.remove(end);
         self.floor = self.floor.max(last);
     }
 
@@ -219,11 +219,11 @@ impl Zones {
         ensures { MatchOption result (NoneSpent self.now place)
             (λ u. IsSome (last_of self.now.zones u) × IsSpent self.now place u) }
     {
-        let (first, _) = first_of_all(&self.all)?;
+        let (first, _) = self.all.first_of_all()?;
         if self.is_spent(first, place) {
             return Some(first);
         }
-        let (second, _) = first_after(&self.all, first)?;
+        let (second, _) = self.all.first_after(first)?;
         if self.is_spent(second, place) {
             Some(second)
         } else {

@@ -1,5 +1,5 @@
 -- Which kept writes of a value a read may have read, by the maps of kept writes.
-use Rattle.std.proofs.Common.{ℕ, ◌≡◌, ◌≢◌, ◌⊎◌, ◌<◌, ◌≤◌, inl, inr, List, Option, Some, None, ap, sym, subst, ◌∙◌, refl, arith}
+use Rattle.std.proofs.Common.{ℕ, ◌≡◌, ◌≢◌, ◌⊎◌, ◌<◌, inl, inr, List, Option, Some, None, ap, sym, subst, ◌∙◌, refl, arith}
 use Rattle.std.proofs.lemmas.Bool.{cases_lt}
 use Rattle.std.proofs.lemmas.Option.{none-some, same_Some}
 use Rattle.kept_writers.specs.Candidates.{AreCandidates, IsCandidate}
@@ -7,10 +7,10 @@ use Rattle.kept_writers.specs.Ends.{IsLeastEnd, IsLeastEndAfter}
 use Rattle.kept_writers.specs.Written.{Written}
 use Rattle.kept_writers.specs.declared.readable.Candidates.{Candidates}
 use Rattle.kept_writers.specs.declared.readable.Candidates.TheVariants as candidates
-use Rattle.kept_zones.specs.Overwriting.{IsOverwritten, Known, Overwrites}
-use Rattle.monitored_key.specs.Indexes.{AreHighEnds, AreIndexed, begun_in, ended_in, written_or_none}
+use Rattle.kept_zones.specs.Overwriting.{IsOverwritten, Known}
+use Rattle.monitored_key.specs.Indexes.{AreIndexed, begun_in, ended_in, written_or_none}
 use Rattle.key_monitor.specs.KeptWrites.{HasNoneFresh, IsFreshBy, IsOneFresh, IsStaleAt, KeptWrite}
-use Rattle.monitored_key.specs.Readable.{AreReadable, IsFreshWrite, IsOnlyWrite, IsStaleWrite, IsWriteOf, WasOverwritten}
+use Rattle.monitored_key.specs.Readable.{AreReadable, IsFreshWrite, IsOnlyWrite, IsStaleWrite, IsWriteOf}
 use Rattle.monitored_key.proofs.Indexing.{unended}
 use Rattle.monitored_key.proofs.Maps.{found}
 
@@ -94,49 +94,23 @@ module _ (writes : ℕ → Option KeptWrite) (values : List ℕ → Option Writt
 
     pub all_over : (n m e f : ℕ) → IsLeastEnd (written_or_none (values value)).ends (Some (e, n))
         → IsLeastEndAfter (written_or_none (values value)).ends e (Some (f, m))
-        → HasNoneFresh known writes place value × IsStaleWrite known writes place value n × IsStaleWrite known writes place value m
-        × (n ≢ m)
-    all_over n m e f first next = (none, stale_at n e first.0, stale_at m f next.1, two_ends n m e f first.0 next.1 next.0)
+        → IsStaleWrite known writes place value n × IsStaleWrite known writes place value m × (n ≢ m)
+    all_over n m e f first next = (stale_at n e first.0, stale_at m f next.1, two_ends n m e f first.0 next.1 next.0)
 
-    module _ (n e : ℕ) (first : IsLeastEnd (written_or_none (values value)).ends (Some (e, n))) where
-      -- it is overwritten
-      pub is_over : IsOverwritten known.zones place e
-      is_over =
-          let k = are.is_ended value n e first.0 in
-          let s = none n k.0 k.1 k.2 in
-          subst (IsOverwritten known.zones place) (same_Some s.0 e (sym s.1 ∙ k.3)) s.2
+    module _ (n e : ℕ) (first : IsLeastEnd (written_or_none (values value)).ends (Some (e, n)))
+        (next : IsLeastEndAfter (written_or_none (values value)).ends e None) where
+      only_one : IsOnlyWrite known writes place value n
+      only_one other kept is =
+          let s = none other kept is.0 is.1 in
+          let at = ended_there other s.0 kept is s.1 in
+          let low = first.1 s.0 other at in
+          elim (cases_lt e s.0) [
+            | inl later ↦ absurd (none-some other (sym (next s.0 later) ∙ at))
+            | inr same ↦
+                let here : s.0 ≡ e = omega arith in
+                same_Some other n (sym at ∙ (ap (ended_in values value) here ∙ first.0))
+          ]
 
-      pub is_high : (floor : ℕ) → AreHighEnds owners floor → floor ≤ e
-      is_high floor high = let k = are.is_ended value n e first.0 in high e n (are.owned n e k.0 k.1 k.3)
-
-      module _ (next : IsLeastEndAfter (written_or_none (values value)).ends e None) where
-        only_one : IsOnlyWrite known writes place value n
-        only_one other kept is =
-            let s = none other kept is.0 is.1 in
-            let at = ended_there other s.0 kept is s.1 in
-            let low = first.1 s.0 other at in
-            elim (cases_lt e s.0) [
-              | inl later ↦ absurd (none-some other (sym (next s.0 later) ∙ at))
-              | inr same ↦
-                  let here : s.0 ≡ e = omega arith in
-                  same_Some other n (sym at ∙ (ap (ended_in values value) here ∙ first.0))
-            ]
-
-        pub one_over : (over by : ℕ) → Overwrites known.zones place over e → owners over ≡ Some by
-            → IsOnlyWrite known writes place value n × WasOverwritten known writes place value n by
-        one_over over by o owned =
-            let k = are.is_ended value n e first.0 in
-            let b = are.owner over by owned in (
-              only_one,
-              record {
-                kept = k.0;
-                is = (k.1, k.2);
-                end = e;
-                ended = k.3;
-                over = b.0;
-                is_over = b.1;
-                over_end = over;
-                over_ended = b.2;
-                overwrites = o;
-              },
-            )
+      pub one_stale : IsOnlyWrite known writes place value n
+          × ((kept : KeptWrite) × IsWriteOf known writes place value n kept × (kept.end ≡ Some e))
+      one_stale = let k = are.is_ended value n e first.0 in (only_one, (k.0, (k.1, k.2), k.3))

@@ -10,3 +10,9 @@ mod Nothing
 mod Seen
 mod FirstCalls
 mod Listing
+mod Front
+mod Owned
+mod Beside
+mod BesideSlot
+mod Keeping
+mod Paths

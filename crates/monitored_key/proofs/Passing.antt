@@ -1,8 +1,9 @@
 -- A pass of forgetting, a family after the other.
-use Rattle.std.proofs.Common.{ℕ, ◌≡◌, ◌+◌, BTreeMap, List, Option, Some, None, ap, sym, subst, ◌∙◌, refl}
+use Rattle.std.proofs.Common.{ℕ, ◌≡◌, ◌+◌, List, Option, Some, None, ap, sym, subst, ◌∙◌, refl}
 use Rattle.std.proofs.lemmas.Option.{none-some}
 use Rattle.recorder.specs.declared.part.Call.{Call}
 use Rattle.kept_zones.specs.Overwriting.{Known}
+use Rattle.kept_zones.specs.Places.{PlaceMap}
 use Rattle.key_monitor.specs.Follows.{Follows, FollowsKept}
 use Rattle.key_monitor.specs.Forgetting.{AreKnownAt, ForgetsOne}
 use Rattle.key_monitor.specs.KeptWrites.{KeptWrite, LacksKept}
@@ -11,11 +12,12 @@ use Rattle.key_monitor.proofs.Following.{one_goes}
 use Rattle.key_monitor.proofs.Opens.{first_open}
 use Rattle.monitored_key.specs.declared.kept.Kept.{Kept}
 use Rattle.monitored_key.specs.declared.writes.Writes.{Writes}
-use Rattle.monitored_key.specs.Indexed.{AreFit, kept_of, owner_of, values_of}
+use Rattle.monitored_key.specs.WritesOf.{AreFit, kept_of, owner_of}
 use Rattle.monitored_key.specs.Kept.{IsSound, StandBefore, key_of}
 use Rattle.monitored_key.specs.Maps.{Lacks, entry_at}
 use Rattle.monitored_key.specs.Passes.{ForgetsAll, GoesOn}
 use Rattle.monitored_key.proofs.Maps.{found}
+use Rattle.monitored_key.proofs.Owned.{owned_of}
 use Rattle.monitored_key.proofs.Rows.{one_end}
 use Rattle.monitored_key.proofs.Standing.{high_after, stand_gone}
 
@@ -30,7 +32,7 @@ module _ (old mid : Kept) (place : ℕ) (g : GoesOn old mid)
   known_at part source row is f = record {
     judged = f.judged;
     opens = first_open part row place (entry_at mid.opens.entries) f.opens
-        (subst (λ (o : BTreeMap ℕ ℕ). IsLeastPlace (entry_at o.entries) row place) (sym g.stays.opens) (least row is));
+        (subst (λ (o : PlaceMap). IsLeastPlace (entry_at o.entries) row place) (sym g.stays.opens) (least row is));
     zones = f.zones;
   }
 
@@ -43,14 +45,14 @@ module _ (old mid : Kept) (place : ℕ) (g : GoesOn old mid)
     one_more =
         let z = f.0 in
         let o = found (owner_of mid.writes end) (g.together.owned end z.last z.is) in
-        let k = g.fit.owner end o.0 o.1 in
+        let k = (owned_of mid.writes g.fit).owner end o.0 o.1 in
         let l = (gone o.0 k.0 o.1 k.1).1 in
         record {
           fit = fit;
           together = stand_gone mid.zones (kept_of mid.writes) (owner_of mid.writes) (entry_at mid.opens.entries) mid.next mid.number
               g.together end z.last o.0 z.is zones z.lacks z.floor
-              (one_end mid.zones (kept_of mid.writes) (values_of mid.writes) (owner_of mid.writes) (entry_at mid.opens.entries) mid.next
-              mid.number g.fit g.together end o.0 o.1) (kept_of writes) l (owner_of writes) free;
+              (one_end mid.zones (kept_of mid.writes) (owner_of mid.writes) (entry_at mid.opens.entries) mid.next
+              mid.number (owned_of mid.writes g.fit) g.together end o.0 o.1) (kept_of writes) l (owner_of writes) free;
           stays = record { opens = g.stays.opens; first = g.stays.first; next = g.stays.next; number = g.stays.number };
           fewer = λ n x at. g.fewer n x (sym (l.others n (λ same. none-some x (sym l.here ∙ (ap (kept_of writes) (sym same) ∙ at)))) ∙ at);
           follows = λ part source row is h.

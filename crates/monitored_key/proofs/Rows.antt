@@ -2,21 +2,19 @@
 use Rattle.std.proofs.Common.{ℕ, ◌≡◌, ◌<◌, ◌≤◌, inl, inr, List, [], Option, Some, None, ap, sym, subst, ◌∙◌, refl, arith}
 use Rattle.std.proofs.lemmas.Bool.{cases_eq}
 use Rattle.std.proofs.lemmas.Option.{none-some, same_Some}
-use Rattle.std.specs.BTreeMap.{BTreeMap, UpdatesBy}
 use Rattle.std.specs.Option.{unwrap_or}
-use Rattle.std.specs.Ordering.{nat_cmp}
-use Rattle.kept_writers.specs.Written.{Written}
-use Rattle.kept_zones.specs.Overwriting.{Known, last_of}
+use Rattle.kept_zones.specs.Overwriting.{HasZone, Known, LacksZone, last_of}
+use Rattle.kept_zones.specs.Places.{PlaceMap}
 use Rattle.key_monitor.specs.KeptWrites.{KeptWrite}
 use Rattle.key_monitor.specs.Pending.{LacksOpen}
 use Rattle.key_monitor.specs.Shown.{first_show}
 use Rattle.monitored_key.specs.Changes.{AreStillKept}
-use Rattle.monitored_key.specs.Indexes.{AreHighEnds, AreIndexed}
+use Rattle.monitored_key.specs.Indexes.{AreHighEnds, AreOwned}
 use Rattle.monitored_key.specs.Maps.{Lacks, Sets, entry_at}
 use Rattle.monitored_key.specs.Passes.{AreFewer}
 use Rattle.monitored_key.specs.Together.{AreHigh, StandTogether}
 use Rattle.monitored_key.proofs.Indexing.{with_end}
-use Rattle.monitored_key.proofs.Maps.{found, lacks_entry, none_unless}
+use Rattle.monitored_key.proofs.Maps.{found, none_unless}
 
 -- nothing stands together
 pub stand_nothing : (known : Known) (writes : ℕ → Option KeptWrite) (owners opens : ℕ → Option ℕ) → known ≡ record { zones = []; floor = 0 }
@@ -34,8 +32,8 @@ stand_nothing known writes owners opens is no_write no_open = record {
 pub high_nothing : (known : Known) → known ≡ record { zones = []; floor = 0 } → AreHigh known
 high_nothing known is end last at = absurd (none-some last (sym (ap (λ (k : Known). last_of k.zones end) is) ∙ at))
 
-module _ (known : Known) (writes : ℕ → Option KeptWrite) (values : List ℕ → Option Written) (owners opens : ℕ → Option ℕ) (next number : ℕ)
-    (are : AreIndexed writes values owners) (t : StandTogether known writes owners opens next number) where
+module _ (known : Known) (writes : ℕ → Option KeptWrite) (owners opens : ℕ → Option ℕ) (next number : ℕ)
+    (are : AreOwned writes owners) (t : StandTogether known writes owners opens next number) where
   -- the zone of an owner
   zone_of_owner : (end n : ℕ) → owners end ≡ Some n → (last : ℕ) × (last_of known.zones end ≡ Some last)
   zone_of_owner end n at = let k = are.owner end n at in found (last_of known.zones end) (t.zoned n end k.0 k.1 k.2)
@@ -86,12 +84,19 @@ pub first_is : (first : Option ℕ) (place : ℕ) → Some (unwrap_or first plac
 first_is None place = refl
 first_is (Some at) place = refl
 
--- ---- a read is open no more
+-- ---- a read is open, or no more
+
+pub sets_place : (old : List (ℕ × ℕ)) (key value : ℕ) (new : List (ℕ × ℕ)) → HasZone old key value new
+    → Sets (entry_at old) key value (entry_at new)
+sets_place old key value new h = record { here = h.here; others = h.others }
+
+pub lacks_place : (old : List (ℕ × ℕ)) (key : ℕ) (new : List (ℕ × ℕ)) → LacksZone old key new → Lacks (entry_at old) key (entry_at new)
+lacks_place old key new h = record { here = h.here; others = h.others }
 
 pub lacks_open : (opens : ℕ → Option ℕ) (begin : ℕ) (new : ℕ → Option ℕ) → Lacks opens begin new → LacksOpen opens begin new
 lacks_open opens begin new l = record { here = l.here; others = l.others }
 
-pub closes : (old mid new : BTreeMap ℕ ℕ) (begin : ℕ) → UpdatesBy nat_cmp (nat_cmp begin) old mid None → new ≡ mid
+pub closes : (old mid new : PlaceMap) (begin : ℕ) → LacksZone old.entries begin mid.entries → new ≡ mid
     → LacksOpen (entry_at old.entries) begin (entry_at new.entries)
-closes old mid new begin u same = subst (λ (m : BTreeMap ℕ ℕ). LacksOpen (entry_at old.entries) begin (entry_at m.entries)) (sym same)
-    (lacks_open (entry_at old.entries) begin (entry_at mid.entries) (lacks_entry old mid begin u))
+closes old mid new begin l same = subst (λ (m : PlaceMap). LacksOpen (entry_at old.entries) begin (entry_at m.entries)) (sym same)
+    (lacks_open (entry_at old.entries) begin (entry_at mid.entries) (lacks_place old.entries begin mid.entries l))

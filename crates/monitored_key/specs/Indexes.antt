@@ -44,3 +44,10 @@ AreHighEnds owners floor = (end number : ℕ) → owners end ≡ Some number →
 -- each zone is that of a kept write's family
 abbrev pub HaveOwners : (ℕ → Option ℕ) → (ℕ → Option ℕ) → Type 0
 HaveOwners zones owners = (end last : ℕ) → zones end ≡ Some last → IsSome (owners end)
+
+-- each end is that of one kept write, which says so
+pub record AreOwned (writes : ℕ → Option KeptWrite) (owners : ℕ → Option ℕ) : Type 0 where
+  pub owned : (number end : ℕ) (kept : KeptWrite) → writes number ≡ Some kept
+      → kept.end ≡ Some end → owners end ≡ Some number
+  pub owner : (end number : ℕ) → owners end ≡ Some number → (kept : KeptWrite)
+      × (writes number ≡ Some kept) × (kept.end ≡ Some end)

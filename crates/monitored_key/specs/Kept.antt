@@ -3,7 +3,7 @@ use Rattle.std.specs.Prelude.{ℕ, [], false, true, Option, Some, None}
 use Rattle.key_monitor.specs.Follows.{KeyState}
 use Rattle.monitored_key.specs.declared.kept.Kept.{Kept}
 use Rattle.monitored_key.specs.Held.{Held, state_of}
-use Rattle.monitored_key.specs.Indexed.{AreFit, kept_of, owner_of}
+use Rattle.monitored_key.specs.WritesOf.{AreFit, entries_of, kept_of, owner_of}
 use Rattle.monitored_key.specs.Maps.{entry_at}
 use Rattle.monitored_key.specs.Together.{AreHigh, StandTogether}
 
@@ -11,7 +11,7 @@ use Rattle.monitored_key.specs.Together.{AreHigh, StandTogether}
 abbrev pub seen : Kept → Held
 seen kept = record {
   known = kept.zones;
-  writes = kept.writes.by_number.entries;
+  writes = entries_of kept.writes;
   opens = kept.opens.entries;
   first = kept.first;
   next = kept.next;

@@ -1,5 +1,5 @@
 -- The zones of kept families, for those who tell of them.
-use Rattle.std.specs.Prelude.{ℕ, ◌≡◌, List, Some, None, Contains}
+use Rattle.std.specs.Prelude.{ℕ, ◌≡◌, List, Option, Some, None, Contains}
 use Rattle.kept_zones.specs.Overwriting.{last_of}
 use Rattle.key_monitor.specs.KeptWrites.{KeptWrite}
 use Rattle.monitored_key.specs.declared.kept_zone.KeptZone.{KeptZone}
@@ -27,3 +27,13 @@ module _ (held : Held) where
   abbrev pub IsTextOf : ℕ → List ℕ → Type 0
   IsTextOf number text =
       (kept : KeptWrite) × (write_at held number ≡ Some kept) × (kept.value ≡ text)
+
+  -- the new list has what the old one has, and the zone of that write
+  pub record Lists (number : ℕ) (old new : List KeptZone) : Type 0 where
+    pub kept : (zone : KeptZone) → Contains old zone → Contains new zone
+    pub zone : (zone : KeptZone) → IsZoneOf number zone → Contains new zone
+
+  -- the same, if there is a number
+  abbrev pub ListsSlot : Option ℕ → List KeptZone → List KeptZone → Type 0
+  ListsSlot None old new = new ≡ old
+  ListsSlot (Some number) old new = Lists number old new

@@ -1,11 +1,14 @@
 pub mod Maps
 pub mod Indexes
 pub mod Indexed
+pub mod Slots
+pub mod WritesOf
 pub mod Readable
 pub mod Together
 pub mod Held
 pub mod Kept
 pub mod KeptZones
+pub mod Listed
 pub mod Followed
 pub mod Verdicts
 pub mod Changes

@@ -8,7 +8,7 @@ use Rattle.monitored_key.specs.declared.kept.Kept.{Kept}
 use Rattle.monitored_key.specs.declared.judged.Judged.TheVariants.{Passes}
 use Rattle.monitored_key.specs.Changes.{HasReadEnded}
 use Rattle.monitored_key.specs.Followed.{JudgesRead}
-use Rattle.monitored_key.specs.Indexed.{AreFit, kept_of}
+use Rattle.monitored_key.specs.WritesOf.{AreFit, kept_of}
 use Rattle.monitored_key.specs.Kept.{StandBefore, key_of, seen}
 use Rattle.monitored_key.specs.Maps.{entry_at}
 

@@ -6,6 +6,20 @@ use Rattle.kept_zones.specs.Overwriting.{Known, Overwrites}
 use Rattle.key_monitor.specs.KeptWrites.{HasNoneFresh, IsFreshBy, IsOneFresh, IsStaleAt, KeptWrite}
 use Rattle.monitored_key.specs.declared.judged.Refusal.{Refusal}
 use Rattle.monitored_key.specs.declared.judged.Refusal.TheVariants as refusal
+use Rattle.monitored_key.specs.declared.stale.Stale.{Stale}
+use Rattle.monitored_key.specs.declared.stale.Stale.TheVariants as stale
+
+-- the candidates with that write
+abbrev pub with_candidate : ℕ → Candidates → Candidates
+with_candidate number candidates.None = candidates.One number
+with_candidate number (candidates.One other) = candidates.Several number other
+with_candidate number (candidates.Several other two) = candidates.Several number other
+
+-- the writes with that one, which ended first there
+abbrev pub with_stale : ℕ → ℕ → Stale → Stale
+with_stale end number stale.None = stale.One end number
+with_stale end number (stale.One e other) = stale.Several number other
+with_stale end number (stale.Several other two) = stale.Several number other
 
 module _ (known : Known) (writes : ℕ → Option KeptWrite) (begin : ℕ) (value : List ℕ) where
   -- it is a kept write of the value
@@ -51,3 +65,10 @@ module _ (known : Known) (writes : ℕ → Option KeptWrite) (begin : ℕ) (valu
   IsWhyNone (refusal.AllOverwritten one two) = HasNoneFresh known writes begin value
       × IsStaleWrite one × IsStaleWrite two × (one ≢ two)
   IsWhyNone (refusal.LateNothing place) = ⊥
+
+  -- of the kept writes of the value, none of which it can have read: none, the one, or two
+  abbrev pub AreStale : Stale → Type 0
+  AreStale stale.None = (number : ℕ) (kept : KeptWrite) → IsWriteOf number kept → ⊥
+  AreStale (stale.One end number) = IsOnlyWrite number
+      × ((kept : KeptWrite) × IsWriteOf number kept × (kept.end ≡ Some end))
+  AreStale (stale.Several one two) = IsStaleWrite one × IsStaleWrite two × (one ≢ two)

@@ -8,7 +8,7 @@ ghost use Rattle.key_monitor.specs.Shown.{IsInTime};
 ghost use Rattle.monitored_key.specs.Changes.{ChangesBy, HasGivenUp, HasReadBegun, HasReadEnded, HasWriteBegun};
 ghost use Rattle.monitored_key.specs.Changes.{HasWriteEnded, nothing_held};
 ghost use Rattle.monitored_key.specs.Followed.{FollowsReadBegun, FollowsWithout, FollowsWriteBegun, FollowsWriteEnded, JudgesRead};
-ghost use Rattle.monitored_key.specs.Indexed.{AreFit, kept_of};
+ghost use Rattle.monitored_key.specs.WritesOf.{AreFit, kept_of};
 ghost use Rattle.monitored_key.specs.Kept.{IsSound, StandBefore, key_of, seen};
 ghost use Rattle.monitored_key.specs.Maps.{entry_at};
 ghost use Rattle.monitored_key.specs.Passes.{AreFewer, EndsRow, ForgetsAll, HasRead, StaysBut};
@@ -17,10 +17,9 @@ ghost use Rattle.monitored_key.specs.Verdicts.{IsVerdict};
 use crate::judged::{Judged, Refusal};
 use crate::writes::Writes;
 use kept_writers::Candidates;
-use kept_zones::Zones;
+use kept_zones::{Places, Zones};
 use key_monitor::forget_one;
 use std::alloc::Global;
-use std::collections::BTreeMap;
 use tag::Memory;
 
 /// The zones, the kept writes and the open reads of a key.
@@ -29,7 +28,7 @@ pub(crate) struct Kept {
     pub(crate) zones: Zones,
     pub(crate) writes: Writes,
     /// By the place where it began, the number of each open read.
-    opens: BTreeMap<u64, u32>,
+    opens: Places,
     /// Where a value was first shown.
     first: Option<u64>,
     /// The least place that the next row may have.
@@ -70,7 +69,7 @@ impl Kept {
         Kept {
             zones: Zones::new(alloc),
             writes: Writes::new(alloc),
-            opens: BTreeMap::new(alloc),
+            opens: Places::new(alloc),
             first: None,
             next: 0,
             number: 0,
@@ -84,8 +83,8 @@ impl Kept {
         ensures { (row : ℕ) → row + 1 ≡ self.now.next
             → IsLeastPlace (entry_at self.now.opens.entries) row result }
     {
-        match self.opens.first_key_value() {
-            Some((begin, _)) => *begin,
+        match self.opens.first_of_all() {
+            Some((begin, _)) => begin,
             None => self.next,
         }
     }
@@ -127,7 +126,7 @@ impl Kept {
         ensures held { OnOk result (HasReadBegun (seen self.old) number place (seen self.new)) }
         ensures follows { OnOk result (FollowsReadBegun (key_of self.old) (key_of self.new) place) }
     {
-        self.opens.insert(place, number)?;
+        self.opens.insert(place, u64::from(number))?;
         self.next = place + 1;
         Ok(())
     }
@@ -209,7 +208,7 @@ impl Kept {
         let last = write_begin.max(begin);
         self.zones.add(place, last)?;
         self.writes.end(number, place)?;
-        self.opens.remove(&begin);
+        self.opens.remove(begin);
         self.end_row(place);
         Ok(())
     }
@@ -231,7 +230,7 @@ impl Kept {
             unreachable!()
         };
         raise(&mut self.zones, end, last, begin)?;
-        self.opens.remove(&begin);
+        self.opens.remove(begin);
         self.end_row(place);
         Ok(())
     }
@@ -266,7 +265,7 @@ impl Kept {
         ensures follows { (value : List ℕ) (one two : ℕ) → JudgesRead (key_of self.old)
             (key_of self.new) begin (Some value) place (Judged.Undecided one two) }
     {
-        self.opens.remove(&begin);
+        self.opens.remove(begin);
         self.end_row(place);
     }
 
@@ -313,7 +312,7 @@ impl Kept {
         match shown_before(self.first, begin) {
             Some(first) => Judged::Refused(Refusal::LateNothing(first)),
             None => {
-                self.opens.remove(&begin);
+                self.opens.remove(begin);
                 self.next = place + 1;
                 self.forget();
                 Judged::Passes
@@ -353,7 +352,7 @@ impl Kept {
         ensures held { HasGivenUp (seen self.old) begin (seen self.new) }
         ensures follows { FollowsWithout (key_of self.old) (key_of self.new) begin self.old.next }
     {
-        self.opens.remove(&begin);
+        self.opens.remove(begin);
         self.forget();
     }
 }

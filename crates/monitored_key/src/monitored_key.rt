@@ -5,7 +5,6 @@ ghost use Rattle.key_monitor.specs.Follows.{FollowsKept};
 ghost use Rattle.monitored_key.specs.Changes.{ChangesBy, HasGivenUp, HasReadBegun, HasWriteBegun, HasWriteEnded, nothing_held};
 ghost use Rattle.monitored_key.specs.Followed.{FollowsReadBegun, FollowsWithout, FollowsWriteBegun, FollowsWriteEnded, JudgesRead};
 ghost use Rattle.monitored_key.specs.Held.{IsLost, state_of, write_at};
-ghost use Rattle.monitored_key.specs.Kept.{IsSound, seen};
 ghost use Rattle.monitored_key.specs.KeptZones.{HasAllZones, HasNoZone, IsTextOf, IsZoneOf};
 ghost use Rattle.monitored_key.specs.Verdicts.{IsVerdict};
 
@@ -50,23 +49,6 @@ impl MonitoredKey {
         }
     }
 
-    /// Takes out what is kept, if it isn't lost.
-    fn take(&mut self) -> Result<Kept, Memory>
-        ensures kept { IfOk result (λ kept. IsSound kept × (seen kept ≡ self.old)) }
-        ensures gone { IsLost self.new }
-        ensures err { OnErr result (IsLost self.old) }
-    {
-        self.kept.take().ok_or(Memory)
-    }
-
-    /// Puts back what is kept.
-    fn put(&mut self, kept: Kept)
-        requires { IsSound kept }
-        ensures { self.new ≡ seen kept }
-    {
-        self.kept = Some(kept);
-    }
-
     /// A read begins.
     pub fn begin_read(&mut self, number: u32, place: u64) -> Result<(), Memory>
         requires next { self.old.next ≤ place }
@@ -78,10 +60,16 @@ impl MonitoredKey {
         ensures kept { OnOk result (IsLost self.new → ⊥) }
         ensures err { OnErr result (IsLost self.new) }
     {
-        let mut kept = self.take()?;
-        kept.begin_read(number, place)?;
-        self.put(kept);
-        Ok(())
+        let Some(kept) = &mut self.kept else {
+            return Err(Memory);
+        };
+        match kept.begin_read(number, place) {
+            Ok(()) => Ok(()),
+            Err(Memory) => {
+                self.kept = None;
+                Err(Memory)
+            }
+        }
     }
 
     /// A write of the value begins.
@@ -96,10 +84,16 @@ impl MonitoredKey {
         ensures kept { OnOk result (IsLost self.new → ⊥) }
         ensures err { OnErr result (IsLost self.new) }
     {
-        let mut kept = self.take()?;
-        kept.begin_write(number, value, place)?;
-        self.put(kept);
-        Ok(())
+        let Some(kept) = &mut self.kept else {
+            return Err(Memory);
+        };
+        match kept.begin_write(number, value, place) {
+            Ok(()) => Ok(()),
+            Err(Memory) => {
+                self.kept = None;
+                Err(Memory)
+            }
+        }
     }
 
     /// The write of that number is answered.
@@ -113,10 +107,16 @@ impl MonitoredKey {
         ensures kept { OnOk result (IsLost self.new → ⊥) }
         ensures err { OnErr result (IsLost self.new) }
     {
-        let mut kept = self.take()?;
-        kept.end_write(number, place)?;
-        self.put(kept);
-        Ok(())
+        let Some(kept) = &mut self.kept else {
+            return Err(Memory);
+        };
+        match kept.end_write(number, place) {
+            Ok(()) => Ok(()),
+            Err(Memory) => {
+                self.kept = None;
+                Err(Memory)
+            }
+        }
     }
 
     /// The read that began at `begin` is answered with the value, or that there is none.
@@ -142,10 +142,16 @@ impl MonitoredKey {
         ensures kept { OnOk result (IsLost self.new → ⊥) }
         ensures err { OnErr result (IsLost self.new) }
     {
-        let mut kept = self.take()?;
-        let judged = kept.end_read(begin, value, place)?;
-        self.put(kept);
-        Ok(judged)
+        let Some(kept) = &mut self.kept else {
+            return Err(Memory);
+        };
+        match kept.end_read(begin, value, place) {
+            Ok(judged) => Ok(judged),
+            Err(Memory) => {
+                self.kept = None;
+                Err(Memory)
+            }
+        }
     }
 
     /// The pending read that began at `begin` is left out, as one that ends no more.
@@ -155,9 +161,8 @@ impl MonitoredKey {
         ensures held { (IsLost self.old → ⊥) → HasGivenUp self.old begin self.new }
         ensures lost { self.new.is_lost ≡ self.old.is_lost }
     {
-        if let Ok(mut kept) = self.take() {
+        if let Some(kept) = &mut self.kept {
             kept.give_up(begin);
-            self.put(kept);
         }
     }
 

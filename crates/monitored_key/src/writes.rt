@@ -1,17 +1,19 @@
 //! The kept writes of a key.
 ghost use Rattle.std.specs.Prelude.{◌≡◌, ◌<◌, ◌≤◌, ℕ, [], Some, None, IsSome, MatchOption, OnOk, length};
-ghost use Rattle.std.specs.BTreeMap.{btree_map_len};
 ghost use Rattle.std.specs.Option.{option_map};
-ghost use Rattle.kept_writers.specs.Ends.{IsLeastEnd, IsLeastEndAfter};
-ghost use Rattle.kept_zones.specs.Overwriting.{IsOverwritten, Overwrites, last_of};
+ghost use Rattle.kept_zones.specs.Overwriting.{IsOverwritten, Known, Overwrites, last_of};
 ghost use Rattle.key_monitor.specs.KeptWrites.{HasNoneFresh, KeptWrite};
-ghost use Rattle.monitored_key.specs.Indexed.{AreFit, kept_of, owner_of, values_of};
-ghost use Rattle.monitored_key.specs.Indexes.{AreHighEnds, HaveOwners, written_or_none};
-ghost use Rattle.monitored_key.specs.Maps.{Lacks, Sets, entry_at};
-ghost use Rattle.monitored_key.specs.Readable.{AreReadable, IsWhyNone};
+ghost use Rattle.monitored_key.specs.Indexes.{AreHighEnds, HaveOwners};
+ghost use Rattle.monitored_key.specs.Maps.{Lacks, Sets};
+ghost use Rattle.monitored_key.specs.Readable.{AreReadable, AreStale, IsWhyNone};
+ghost use Rattle.monitored_key.specs.WritesOf.{AreFit, entries_of, kept_of, owner_of};
 
-use crate::by_value::{ByValue, add_writer, end_writer, forget_writer};
+use crate::indexed::Indexed;
 use crate::judged::Refusal;
+use crate::slots::{
+    Slot, candidates_beside, end_at, forget_at, number_of, owner_at, stale_beside, write_at,
+};
+use crate::stale::Stale;
 use crate::write::Write;
 use kept_writers::Candidates;
 use kept_zones::Zones;
@@ -19,39 +21,26 @@ use std::alloc::Global;
 use std::collections::BTreeMap;
 use tag::Memory;
 
-/// The kept writes: by number, by value, and by the first end of their families.
+/// The kept writes: two in slots, so that few take no maps, and the others in maps.
 #[derive(Drop)]
 pub(crate) struct Writes {
     alloc: Global,
-    by_number: BTreeMap<u32, Write>,
-    by_value: ByValue,
-    by_end: BTreeMap<u64, u32>,
-}
-
-/// A call of the write's family ended first there.
-fn set_end(writes: &mut BTreeMap<u32, Write>, number: u32, place: u64)
-    requires { IsSome (entry_at writes.old.entries number) }
-    ensures { (kept : KeptWrite) → entry_at writes.old.entries number ≡ Some kept
-        → Sets (entry_at writes.old.entries) number
-        (record { value = kept.value; begin = kept.begin; end = Some place }) (entry_at writes.new.entries) }
-{
-    match writes.get_mut(&number) {
-        Some(write) => write.set_end(place),
-        None => unreachable!(),
-    }
+    first: Slot,
+    second: Slot,
+    more: Indexed,
 }
 
 impl Writes {
     /// No writes.
     pub(crate) fn new(alloc: Global) -> Writes
         ensures fit { AreFit result }
-        ensures writes { result.by_number.entries ≡ [] }
+        ensures writes { entries_of result ≡ [] }
     {
         Writes {
             alloc,
-            by_number: BTreeMap::new(alloc),
-            by_value: BTreeMap::new(alloc),
-            by_end: BTreeMap::new(alloc),
+            first: None,
+            second: None,
+            more: Indexed::new(alloc),
         }
     }
 
@@ -59,10 +48,13 @@ impl Writes {
     pub(crate) fn span(&self, number: u32) -> Option<(u64, Option<u64>)>
         ensures { option_map (λ k. (k.begin, k.end)) (kept_of self.now number) ≡ result }
     {
-        match self.by_number.get(&number) {
-            Some(write) => Some((write.begin(), write.end())),
-            None => None,
+        if let Some(write) = write_at(&self.first, number) {
+            return Some((write.begin(), write.end()));
         }
+        if let Some(write) = write_at(&self.second, number) {
+            return Some((write.begin(), write.end()));
+        }
+        self.more.span(number)
     }
 
     /// Where the write of that number began, if it is kept and no call of its family has ended.
@@ -78,18 +70,28 @@ impl Writes {
         }
     }
 
-    /// By the first end of their families, the numbers of the writes.
-    pub(crate) fn owners(&self) -> &BTreeMap<u64, u32>
-        ensures { result.now ≡ self.now.by_end }
+    /// The numbers of the writes in slots.
+    pub(crate) fn few(&self) -> (Option<u32>, Option<u32>)
+        ensures first { result.0 ≡ option_map (λ w. w.0) self.now.first }
+        ensures second { result.1 ≡ option_map (λ w. w.0) self.now.second }
     {
-        &self.by_end
+        (number_of(&self.first), number_of(&self.second))
+    }
+
+    /// By the first end of their families, the numbers of the other writes.
+    pub(crate) fn owners(&self) -> &BTreeMap<u64, u32>
+        ensures { result.now ≡ self.now.more.by_end }
+    {
+        self.more.owners()
     }
 
     /// How many there are.
     pub(crate) fn count(&self) -> usize
-        ensures { result ≡ length self.now.by_number.entries }
+        ensures { result ≡ length (entries_of self.now) }
     {
-        self.by_number.len()
+        let more = self.more.count();
+        let rest = more + if self.second.is_some() { 1 } else { 0 };
+        rest + if self.first.is_some() { 1 } else { 0 }
     }
 
     /// What the write of that number writes, if it is kept.
@@ -97,10 +99,13 @@ impl Writes {
         ensures { MatchOption result (kept_of self.now number ≡ None)
             (λ text. (kept : KeptWrite) × (kept_of self.now number ≡ Some kept) × (kept.value ≡ text.now)) }
     {
-        match self.by_number.get(&number) {
-            Some(write) => Some(write.text()),
-            None => None,
+        if let Some(write) = write_at(&self.first, number) {
+            return Some(write.text());
         }
+        if let Some(write) = write_at(&self.second, number) {
+            return Some(write.text());
+        }
+        self.more.text(number)
     }
 
     /// Adds a write that began at the place.
@@ -112,13 +117,18 @@ impl Writes {
             (record { value = text.now; begin = place; end = None }) (kept_of self.new)) }
         ensures ends { OnOk result ((end : ℕ) → owner_of self.new end ≡ owner_of self.old end) }
     {
-        add_writer(&mut self.by_value, self.alloc, text, number, place)?;
-        self.by_number
-            .insert(number, Write::begun(self.alloc, text, place)?)?;
-        Ok(())
+        if self.first.is_none() {
+            self.first = Some((number, Write::begun(self.alloc, text, place)?));
+            return Ok(());
+        }
+        if self.second.is_none() {
+            self.second = Some((number, Write::begun(self.alloc, text, place)?));
+            return Ok(());
+        }
+        self.more.add(number, text, place)
     }
 
-    /// A call of the write's family ended first there.
+    /// A call of the write's family ended first at that place.
     pub(crate) fn end(&mut self, number: u32, place: u64) -> Result<(), Memory>
         requires fit { AreFit self.old }
         requires there { (kept : KeptWrite) × (kept_of self.old number ≡ Some kept)
@@ -130,13 +140,13 @@ impl Writes {
             (record { value = kept.value; begin = kept.begin; end = Some place }) (kept_of self.new)) }
         ensures ends { OnOk result (Sets (owner_of self.old) place number (owner_of self.new)) }
     {
-        let Some(write) = self.by_number.get(&number) else {
-            unreachable!()
-        };
-        end_writer(&mut self.by_value, write.text(), number, place)?;
-        self.by_end.insert(place, number)?;
-        set_end(&mut self.by_number, number, place);
-        Ok(())
+        if end_at(&mut self.first, number, place) {
+            return Ok(());
+        }
+        if end_at(&mut self.second, number, place) {
+            return Ok(());
+        }
+        self.more.end(number, place)
     }
 
     /// Forgets the write whose family ended first there.
@@ -148,15 +158,15 @@ impl Writes {
             → kept_of self.old number ≡ Some kept → (kept.end ≡ Some end)
             × Lacks (kept_of self.old) number (kept_of self.new) }
         ensures ends { Lacks (owner_of self.old) end (owner_of self.new) }
-        ensures fewer { btree_map_len self.new.by_end < btree_map_len self.old.by_end }
+        ensures fewer { length (entries_of self.new) < length (entries_of self.old) }
     {
-        let Some(number) = self.by_end.remove(&end) else {
-            unreachable!()
-        };
-        let Some(write) = self.by_number.remove(&number) else {
-            unreachable!()
-        };
-        forget_writer(&mut self.by_value, write.text(), end);
+        if forget_at(&mut self.first, end) {
+            return;
+        }
+        if forget_at(&mut self.second, end) {
+            return;
+        }
+        self.more.forget(end);
     }
 
     /// Which kept writes of the value a read that began at the place may have read.
@@ -165,30 +175,22 @@ impl Writes {
         requires high { AreHighEnds (owner_of self.now) zones.now.floor }
         ensures { AreReadable zones.now (kept_of self.now) begin text.now result }
     {
-        match self.by_value.get(text) {
-            Some(writers) => writers.candidates(zones, begin),
-            None => Candidates::None,
-        }
+        let more = self.more.candidates(text, zones, begin);
+        let rest = candidates_beside(&self.second, text, zones, begin, more);
+        candidates_beside(&self.first, text, zones, begin, rest)
     }
 
-    /// The first end of the families of the value's writes, with the number of its write.
-    fn first_ended(&self, text: &str) -> Option<(u64, u32)>
-        ensures { IsLeastEnd (written_or_none (values_of self.now text.now)).ends result }
+    /// The number of the write whose family ended first there.
+    fn owner(&self, end: u64) -> Option<u32>
+        ensures { owner_of self.now end ≡ result }
     {
-        match self.by_value.get(text) {
-            Some(writers) => writers.first_ended(),
-            None => None,
+        if let Some(number) = owner_at(&self.first, end) {
+            return Some(number);
         }
-    }
-
-    /// The first end after that one.
-    fn next_ended(&self, text: &str, end: u64) -> Option<(u64, u32)>
-        ensures { IsLeastEndAfter (written_or_none (values_of self.now text.now)).ends end result }
-    {
-        match self.by_value.get(text) {
-            Some(writers) => writers.next_ended(end),
-            None => None,
+        if let Some(number) = owner_at(&self.second, end) {
+            return Some(number);
         }
+        self.more.owner(end)
     }
 
     /// Whose family overwrote that of the write with that end.
@@ -200,12 +202,23 @@ impl Writes {
             × (owner_of self.now over ≡ Some result) }
     {
         match zones.overwriter(end, begin) {
-            Some(over) => match self.by_end.get(&over) {
-                Some(number) => *number,
+            Some(over) => match self.owner(over) {
+                Some(number) => number,
                 None => unreachable!(),
             },
             None => unreachable!(),
         }
+    }
+
+    /// The writes of the value, none of which a read can have read: none, the only one, or two.
+    fn stale(&self, text: &str) -> Stale
+        requires fit { AreFit self.now }
+        ensures { (known : Known) (begin : ℕ) → HasNoneFresh known (kept_of self.now) begin text.now
+            → AreStale known (kept_of self.now) begin text.now result }
+    {
+        let more = self.more.stale(text);
+        let rest = stale_beside(&self.second, text, more);
+        stale_beside(&self.first, text, rest)
     }
 
     /// Why a read that began at the place can't have read any kept write of the value.
@@ -216,12 +229,12 @@ impl Writes {
         requires none { HasNoneFresh zones.now (kept_of self.now) begin text.now }
         ensures { IsWhyNone zones.now (kept_of self.now) begin text.now result }
     {
-        let Some((end, number)) = self.first_ended(text) else {
-            return Refusal::NoWrite;
-        };
-        match self.next_ended(text, end) {
-            Some((_, other)) => Refusal::AllOverwritten(number, other),
-            None => Refusal::Overwritten(number, self.overwriter(zones, end, begin)),
+        match self.stale(text) {
+            Stale::None => Refusal::NoWrite,
+            Stale::One(end, number) => {
+                Refusal::Overwritten(number, self.overwriter(zones, end, begin))
+            }
+            Stale::Several(one, two) => Refusal::AllOverwritten(one, two),
         }
     }
 }

@@ -1,4 +1,4 @@
-use Rattle.monitored_key.specs.Indexed.{kept_of}
+use Rattle.monitored_key.specs.WritesOf.{kept_of}
 use Rattle.monitored_key.specs.Maps.{entry_at}
 use Rattle.monitored_key.proofs.Following.{follows_write_begun}
 use Rattle.monitored_key.proofs.Rows.{new_number}

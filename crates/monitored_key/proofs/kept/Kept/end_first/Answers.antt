@@ -1,6 +1,8 @@
-use Rattle.std.proofs.Common.{ℕ, ◌≤◌, BTreeMap, ap, sym, subst, arith}
+use Rattle.std.proofs.Common.{ℕ, ◌≤◌, ap, sym, subst, arith}
+use Rattle.monitored_key.proofs.Owned.{owned_of}
+use Rattle.kept_zones.specs.Places.{PlaceMap}
 use Rattle.kept_zones.specs.Overwriting.{HasZone}
-use Rattle.monitored_key.specs.Indexed.{kept_of, owner_of, values_of}
+use Rattle.monitored_key.specs.WritesOf.{kept_of, owner_of}
 use Rattle.monitored_key.specs.Maps.{entry_at}
 use Rattle.monitored_key.proofs.Following.{follows_first_end}
 use Rattle.monitored_key.proofs.Rows.{free_place, still_ended}
@@ -20,8 +22,8 @@ add-requires-clause-begun c =
 pub end-requires-clause-free : goal.end-requires-clause-free
 end-requires-clause-free c =
     let s = c.args.self.now in
-    free_place s.zones (kept_of s.writes) (values_of s.writes) (owner_of s.writes) (entry_at s.opens.entries) s.next s.number
-    c.requires.sound.fit c.requires.sound.together c.args.place c.requires.next
+    free_place s.zones (kept_of s.writes) (owner_of s.writes) (entry_at s.opens.entries) s.next s.number
+    (owned_of s.writes c.requires.sound.fit) c.requires.sound.together c.args.place c.requires.next
 
 pub end_row-requires-clause-together : goal.end_row-requires-clause-together
 end_row-requires-clause-together c =
@@ -41,7 +43,7 @@ returns-clause-held c =
       writes = still_ended (kept_of s.writes) (kept_of c.end.new.self) (kept_of c.end_row.new.self.writes) c.args.number c.args.place
           o.0 o.1
           (c.in_ok-end.ensures.kept o.0 o.1) row.fewer;
-      opens = ap (λ (m : BTreeMap ℕ ℕ). m.entries) row.opens;
+      opens = ap (λ (m : PlaceMap). m.entries) row.opens;
       first = row.first;
       next = row.next;
       number_is = row.number;

@@ -1,10 +1,10 @@
 use Rattle.std.proofs.Common.{◌≤◌, ◌+◌, refl, arith}
 use Rattle.monitored_key.specs.declared.judged.Refusal.TheVariants.{LateNothing}
-use Rattle.monitored_key.specs.Indexed.{kept_of, owner_of}
+use Rattle.monitored_key.specs.WritesOf.{kept_of, owner_of}
 use Rattle.monitored_key.specs.Kept.{key_of}
 use Rattle.monitored_key.specs.Maps.{entry_at}
 use Rattle.monitored_key.proofs.Following.{judges_late, judges_nothing}
-use Rattle.monitored_key.proofs.Maps.{lacks_entry}
+use Rattle.monitored_key.proofs.Rows.{lacks_place}
 use Rattle.monitored_key.proofs.Rows.{closes, still_same}
 use Rattle.monitored_key.proofs.Standing.{stand_closed, stand_later}
 use Rattle.monitored_key.proofs.kept.Kept.end_nothing.Goals as goal
@@ -16,7 +16,7 @@ forget-requires-clause-together c =
     let opens = entry_at c.remove.new.self.entries in
     stand_later s.zones (kept_of s.writes) (owner_of s.writes) opens s.next s.number
     (stand_closed s.zones (kept_of s.writes) (owner_of s.writes) (entry_at s.opens.entries) s.next s.number c.requires.sound.together
-    c.args.begin opens (lacks_entry s.opens c.remove.new.self c.args.begin c.remove.ensures.updates)) (c.args.place + 1) le
+    c.args.begin opens (lacks_place s.opens.entries c.args.begin c.remove.new.self.entries c.remove.ensures.gone)) (c.args.place + 1) le
 
 pub returns-in-Some-clause-follows : goal.returns-in-Some-clause-follows
 returns-in-Some-clause-follows c =
@@ -31,7 +31,7 @@ returns-in-None-clause-held c =
     let stays = c.forget.ensures.stays in
     record {
       writes = still_same (kept_of s.writes) (kept_of new.writes) c.forget.ensures.fewer;
-      opens = closes s.opens c.remove.new.self new.opens c.args.begin c.remove.ensures.updates stays.opens;
+      opens = closes s.opens c.remove.new.self new.opens c.args.begin c.remove.ensures.gone stays.opens;
       first = stays.first;
       next = stays.next;
       number_is = stays.number;
@@ -41,5 +41,5 @@ pub returns-in-None-clause-follows : goal.returns-in-None-clause-follows
 returns-in-None-clause-follows c =
     let s = c.args.self.now in
     judges_nothing s.zones (kept_of s.writes) (entry_at s.opens.entries) s.first c.args.begin c.args.place
-    (entry_at c.remove.new.self.entries) (lacks_entry s.opens c.remove.new.self c.args.begin c.remove.ensures.updates)
+    (entry_at c.remove.new.self.entries) (lacks_place s.opens.entries c.args.begin c.remove.new.self.entries c.remove.ensures.gone)
     (key_of c.forget.new.self) (λ part source f. c.forget.ensures.follows part source c.args.place refl f) c.in-None.ensures

@@ -1,7 +1,7 @@
 use Rattle.std.proofs.Common.{◌≡◌, ℕ, Option, Some, ap, sym, subst, ◌∙◌, refl}
 use Rattle.key_monitor.specs.Follows.{Follows}
 use Rattle.key_monitor.specs.Shown.{first_show}
-use Rattle.monitored_key.specs.Indexed.{kept_of}
+use Rattle.monitored_key.specs.WritesOf.{kept_of}
 use Rattle.monitored_key.specs.Maps.{entry_at}
 use Rattle.monitored_key.proofs.Following.{state}
 use Rattle.monitored_key.proofs.Rows.{first_is}

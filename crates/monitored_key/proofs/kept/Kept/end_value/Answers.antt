@@ -1,4 +1,5 @@
-use Rattle.monitored_key.specs.Indexed.{kept_of, owner_of, values_of}
+use Rattle.monitored_key.specs.WritesOf.{kept_of, owner_of}
+use Rattle.monitored_key.proofs.Owned.{owned_of}
 use Rattle.monitored_key.specs.Kept.{key_of}
 use Rattle.monitored_key.specs.Maps.{entry_at}
 use Rattle.monitored_key.proofs.Following.{judges_none}
@@ -8,14 +9,14 @@ use Rattle.monitored_key.proofs.kept.Kept.end_value.Goals as goal
 pub candidates-requires-clause-high : goal.candidates-requires-clause-high
 candidates-requires-clause-high c =
     let s = c.args.self.now in
-    high_ends s.zones (kept_of s.writes) (values_of s.writes) (owner_of s.writes) (entry_at s.opens.entries) s.next s.number
-    c.requires.sound.fit c.requires.sound.together c.requires.sound.high
+    high_ends s.zones (kept_of s.writes) (owner_of s.writes) (entry_at s.opens.entries) s.next s.number
+    (owned_of s.writes c.requires.sound.fit) c.requires.sound.together c.requires.sound.high
 
 pub refusal-refusal-requires-clause-high : goal.refusal-refusal-requires-clause-high
 refusal-refusal-requires-clause-high c =
     let s = c.args.self.now in
-    high_ends s.zones (kept_of s.writes) (values_of s.writes) (owner_of s.writes) (entry_at s.opens.entries) s.next s.number
-    c.requires.sound.fit c.requires.sound.together c.requires.sound.high
+    high_ends s.zones (kept_of s.writes) (owner_of s.writes) (entry_at s.opens.entries) s.next s.number
+    (owned_of s.writes c.requires.sound.fit) c.requires.sound.together c.requires.sound.high
 
 pub read-requires-clause-one : goal.read-requires-clause-one
 read-requires-clause-one c = let k = c.in-One.ensures in (k.0, k.2)

@@ -1,5 +1,6 @@
-use Rattle.std.proofs.Common.{ℕ, ◌≤◌, ◌+◌, BTreeMap, ap, arith}
-use Rattle.monitored_key.specs.Indexed.{kept_of, owner_of}
+use Rattle.std.proofs.Common.{◌≤◌, ◌+◌, ap, arith}
+use Rattle.kept_zones.specs.Places.{PlaceMap}
+use Rattle.monitored_key.specs.WritesOf.{kept_of, owner_of}
 use Rattle.monitored_key.specs.Maps.{entry_at}
 use Rattle.monitored_key.proofs.Following.{follows_other_end}
 use Rattle.monitored_key.proofs.Rows.{still_same}
@@ -18,7 +19,7 @@ returns-in-None-clause-held c =
     let row = c.end_row.ensures.row in
     record {
       writes = still_same (kept_of c.args.self.now.writes) (kept_of c.end_row.new.self.writes) row.fewer;
-      opens = ap (λ (m : BTreeMap ℕ ℕ). m.entries) row.opens;
+      opens = ap (λ (m : PlaceMap). m.entries) row.opens;
       first = row.first;
       next = row.next;
       number_is = row.number;

@@ -1,13 +1,14 @@
 use Rattle.std.proofs.Common.{ℕ, ◌≡◌, ◌≤◌, max, ap, sym, subst, ◌∙◌, arith}
+use Rattle.monitored_key.proofs.Owned.{owned_of}
 use Rattle.std.proofs.lemmas.Option.{same_Some}
 use Rattle.kept_zones.specs.Overwriting.{HasZone}
 use Rattle.key_monitor.specs.KeptWrites.{KeptWrite}
-use Rattle.monitored_key.specs.Indexed.{kept_of, owner_of, values_of}
+use Rattle.monitored_key.specs.WritesOf.{kept_of, owner_of}
 use Rattle.monitored_key.specs.Kept.{key_of}
 use Rattle.monitored_key.specs.Maps.{entry_at}
 use Rattle.monitored_key.specs.Passes.{HasRead}
 use Rattle.monitored_key.proofs.Following.{judges_first}
-use Rattle.monitored_key.proofs.Maps.{lacks_entry}
+use Rattle.monitored_key.proofs.Rows.{lacks_place}
 use Rattle.monitored_key.proofs.Rows.{closes, free_place, still_ended}
 use Rattle.monitored_key.proofs.Standing.{before_later, stand_closed, stand_ended}
 use Rattle.monitored_key.proofs.kept.Kept.read_first.Goals as goal
@@ -28,8 +29,8 @@ end-requires-clause-there c = let o = c.requires.one in (o.0, o.1.is, o.2)
 pub end-requires-clause-free : goal.end-requires-clause-free
 end-requires-clause-free c =
     let s = c.args.self.now in
-    free_place s.zones (kept_of s.writes) (values_of s.writes) (owner_of s.writes) (entry_at s.opens.entries) s.next s.number
-    c.requires.sound.fit c.requires.sound.together c.args.place c.requires.next
+    free_place s.zones (kept_of s.writes) (owner_of s.writes) (entry_at s.opens.entries) s.next s.number
+    (owned_of s.writes c.requires.sound.fit) c.requires.sound.together c.args.place c.requires.next
 
 pub end_row-requires-clause-together : goal.end_row-requires-clause-together
 end_row-requires-clause-together c =
@@ -37,7 +38,7 @@ end_row-requires-clause-together c =
     let o = c.requires.one in
     let opens = entry_at c.remove.new.self.entries in
     let closed = stand_closed s.zones (kept_of s.writes) (owner_of s.writes) (entry_at s.opens.entries) s.next s.number
-    c.requires.sound.together c.args.begin opens (lacks_entry s.opens c.remove.new.self c.args.begin c.remove.ensures.updates) in
+    c.requires.sound.together c.args.begin opens (lacks_place s.opens.entries c.args.begin c.remove.new.self.entries c.remove.ensures.gone) in
     let begun : c.max-last.result ≤ c.args.place = omega (
       arith,
       c.requires.sound.together.begun c.args.number o.0 o.1.is,
@@ -64,13 +65,13 @@ returns-clause-read c = λ kept at.
       held = record {
         writes = still_ended (kept_of s.writes) (kept_of c.end.new.self) (kept_of new.writes) c.args.number c.args.place o.0 o.1.is
             (c.in_ok-end.ensures.kept o.0 o.1.is) row.fewer;
-        opens = closes s.opens c.remove.new.self new.opens c.args.begin c.remove.ensures.updates row.opens;
+        opens = closes s.opens c.remove.new.self new.opens c.args.begin c.remove.ensures.gone row.opens;
         first = row.first;
         next = row.next;
         number_is = row.number;
       };
       follows = judges_first s.zones (kept_of s.writes) (entry_at s.opens.entries) s.first c.args.begin c.args.place c.args.number o.0 o.1
-          (entry_at c.remove.new.self.entries) (lacks_entry s.opens c.remove.new.self c.args.begin c.remove.ensures.updates) (key_of
+          (entry_at c.remove.new.self.entries) (lacks_place s.opens.entries c.args.begin c.remove.new.self.entries c.remove.ensures.gone) (key_of
           new) o.2
           c.add.new.self zone c.in_ok-add.ensures.floor (kept_of c.end.new.self) (c.in_ok-end.ensures.kept o.0 o.1.is)
           (λ part source f. row.follows part source f);

@@ -1,7 +1,7 @@
 use Rattle.std.proofs.Common.{sym, ◌∙◌}
 use Rattle.std.proofs.lemmas.Option.{none-some}
 use Rattle.kept_zones.specs.Overwriting.{last_of}
-use Rattle.monitored_key.specs.Indexed.{kept_of}
+use Rattle.monitored_key.specs.WritesOf.{kept_of}
 use Rattle.monitored_key.proofs.Listing.{span_kept}
 use Rattle.monitored_key.proofs.Maps.{found}
 use Rattle.monitored_key.proofs.kept.Kept.zone.Goals as goal

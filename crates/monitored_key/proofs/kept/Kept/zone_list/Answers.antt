@@ -1,27 +1,16 @@
-use Rattle.std.proofs.Common.{◌≡◌, List, rules, sym, subst}
+use Rattle.std.proofs.Common.{◌≡◌, rules, sym, subst}
 use Rattle.std.proofs.lemmas.Map.Iter.{rest_all, rest_more}
 use Rattle.std.specs.Map.Iter.{deref_pair}
-use Rattle.monitored_key.specs.declared.kept_zone.KeptZone.{KeptZone}
 use Rattle.monitored_key.specs.Kept.{seen}
-use Rattle.monitored_key.proofs.Listing.{AreListed, all_listed, none_listed, none_more, one_more}
+use Rattle.monitored_key.proofs.Listing.{AreListed, all_listed, few_listed, next_listed}
 use Rattle.monitored_key.proofs.kept.Kept.zone_list.Goals as goal
 
 pub loop-number-init : goal.loop-number-init
 loop-number-init c =
     let s = c.args.self.now in
-    let e : c.into_iter-number-iterator.result ≡ s.writes.by_end.entries = search rules in
-    subst (AreListed (seen s) c.new-list.result.items) (sym e) (none_listed s c.requires.fit c.new-list.result.items)
-
-pub loop-number-preserved-in-Continue-1 : goal.loop-number-preserved-in-Continue-1
-loop-number-preserved-in-Continue-1 c =
-    let s = seen c.args.self.now in
-    let list = c.loop-number.list.items in
-    let zone = c.in-Some-zone.zone in
-    let e = rest_more deref_pair c.loop-number.number-iterator c.next.new.self c.next.result (c.in-Some.field-0-0, c.in-Some.number)
-    c.in-Some.is c.next.ensures.steps in
-    let l = subst (AreListed s list) e c.loop-number.invariant in
-    subst (λ (new : List KeptZone). AreListed s new c.next.new.self) (sym c.in_ok-push.ensures.items)
-    (one_more s list c.in-Some.field-0-0.now c.in-Some.number.now c.next.new.self l zone c.in-Some-zone.ensures)
+    let list = c.in_ok-list.list.items in
+    let e : c.into_iter-number-iterator.result ≡ s.writes.more.by_end.entries = search rules in
+    subst (AreListed (seen s) list) (sym e) (few_listed s list c.in_ok-list.ensures)
 
 pub loop-number-preserved : goal.loop-number-preserved
 loop-number-preserved c =
@@ -30,7 +19,7 @@ loop-number-preserved c =
     let e = rest_more deref_pair c.loop-number.number-iterator c.next.new.self c.next.result (c.in-Some.field-0-0, c.in-Some.number)
     c.in-Some.is c.next.ensures.steps in
     let l = subst (AreListed s list) e c.loop-number.invariant in
-    none_more s list c.in-Some.field-0-0.now c.in-Some.number.now c.next.new.self l c.in_default.ensures
+    next_listed s list c.list_zone.new.list.items c.in-Some.field-0-0.now c.in-Some.number.now c.next.new.self l c.in_ok-list_zone.ensures
 
 pub returns : goal.returns
 returns c =

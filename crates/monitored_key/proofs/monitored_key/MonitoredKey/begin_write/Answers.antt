@@ -1,35 +1,40 @@
-use Rattle.std.proofs.Common.{◌≡◌, ap, arith}
-use Rattle.monitored_key.specs.Followed.{FollowsWriteBegun}
-use Rattle.monitored_key.specs.Changes.{HasWriteBegun}
+use Rattle.std.proofs.Common.{◌≡◌, ap, sym, refl, arith}
 use Rattle.monitored_key.specs.Held.{Held, state_of}
 use Rattle.monitored_key.specs.Kept.{seen}
-use Rattle.monitored_key.proofs.Seen.{carried, not_lost}
+use Rattle.monitored_key.specs.Changes.{HasWriteBegun}
+use Rattle.monitored_key.specs.Followed.{FollowsWriteBegun}
+use Rattle.monitored_key.proofs.Seen.{carried, not_lost, taken}
 use Rattle.monitored_key.proofs.monitored_key.MonitoredKey.begin_write.Goals as goal
 
 pub begin_write-requires-clause-sound : goal.begin_write-requires-clause-sound
-begin_write-requires-clause-sound c = c.in_ok-kept.ensures.kept.0
+begin_write-requires-clause-sound c =
+    (taken c.self.inside.kept c.in-Some.kept c.args.self.now (sym c.in-Some.is) c.self.view_is c.self.invariant).0
 
 pub begin_write-requires-clause-next : goal.begin_write-requires-clause-next
 begin_write-requires-clause-next c =
-    let e : c.in_ok-kept.kept.next ≡ c.args.self.now.next = ap (λ (h : Held). h.next) c.in_ok-kept.ensures.kept.1 in
+    let t = taken c.self.inside.kept c.in-Some.kept c.args.self.now (sym c.in-Some.is) c.self.view_is c.self.invariant in
+    let e : c.in-Some.kept.next ≡ c.args.self.now.next = ap (λ (h : Held). h.next) t.1 in
     omega (arith, e, c.requires.next)
 
 pub begin_write-requires-clause-rises : goal.begin_write-requires-clause-rises
 begin_write-requires-clause-rises c =
-    let e : c.in_ok-kept.kept.number ≡ c.args.self.now.number = ap (λ (h : Held). h.number) c.in_ok-kept.ensures.kept.1 in
+    let t = taken c.self.inside.kept c.in-Some.kept c.args.self.now (sym c.in-Some.is) c.self.view_is c.self.invariant in
+    let e : c.in-Some.kept.number ≡ c.args.self.now.number = ap (λ (h : Held). h.number) t.1 in
     omega (arith, e, c.requires.rises)
 
-pub returns-clause-follows : goal.returns-clause-follows
-returns-clause-follows c =
-    carried (λ (a b : Held). FollowsWriteBegun (state_of a) (state_of b) c.args.number c.args.value.now c.args.place) (seen
-    c.in_ok-kept.kept) (seen c.begin_write.new.self)
-    c.args.self.now c.put.new.self c.in_ok-kept.ensures.kept.1 c.put.ensures c.in_ok-begin_write.ensures.follows
+pub returns-in-Ok-clause-follows : goal.returns-in-Ok-clause-follows
+returns-in-Ok-clause-follows c =
+    let t = taken c.self.inside.kept c.in-Some.kept c.args.self.now (sym c.in-Some.is) c.self.view_is c.self.invariant in
+    carried (λ (a b : Held). FollowsWriteBegun (state_of a) (state_of b) c.args.number c.args.value.now c.args.place)
+    (seen c.in-Some.kept) (seen c.begin_write.new.self) c.args.self.now (seen c.begin_write.new.self) t.1 refl c.in-Ok.ensures.follows
 
-pub returns-clause-held : goal.returns-clause-held
-returns-clause-held c =
-    carried (λ (a b : Held). HasWriteBegun a c.args.number c.args.value.now c.args.place b) (seen c.in_ok-kept.kept) (seen
-    c.begin_write.new.self)
-    c.args.self.now c.put.new.self c.in_ok-kept.ensures.kept.1 c.put.ensures c.in_ok-begin_write.ensures.held
+pub returns-in-Ok-clause-held : goal.returns-in-Ok-clause-held
+returns-in-Ok-clause-held c =
+    let t = taken c.self.inside.kept c.in-Some.kept c.args.self.now (sym c.in-Some.is) c.self.view_is c.self.invariant in
+    carried (λ (a b : Held). HasWriteBegun a c.args.number c.args.value.now c.args.place b)
+    (seen c.in-Some.kept) (seen c.begin_write.new.self) c.args.self.now (seen c.begin_write.new.self) t.1 refl c.in-Ok.ensures.held
 
-pub returns-clause-lost : goal.returns-clause-lost
-returns-clause-lost c = not_lost c.in_ok-kept.kept c.args.self.now c.in_ok-kept.ensures.kept.1
+pub returns-in-Ok-clause-lost : goal.returns-in-Ok-clause-lost
+returns-in-Ok-clause-lost c =
+    let t = taken c.self.inside.kept c.in-Some.kept c.args.self.now (sym c.in-Some.is) c.self.view_is c.self.invariant in
+    not_lost c.in-Some.kept c.args.self.now t.1

@@ -1,31 +1,19 @@
-use Rattle.std.proofs.Common.{inl, subst}
-use Rattle.kept_writers.specs.Candidates.{begin_at}
-use Rattle.monitored_key.specs.Indexed.{kept_of, owner_of, values_of}
+use Rattle.std.proofs.Common.{None, ap, refl}
 use Rattle.key_monitor.specs.KeptWrites.{KeptWrite}
-use Rattle.monitored_key.specs.Maps.{Sets, entry_at, text_at}
-use Rattle.monitored_key.proofs.Finding.{is_new}
-use Rattle.monitored_key.proofs.Indexing.{by_sets, indexed_added}
-use Rattle.monitored_key.proofs.Maps.{sets_entry, there}
+use Rattle.monitored_key.proofs.Keeping.{in_more, in_second, none_of, on_ok_three}
 use Rattle.monitored_key.proofs.writes.Writes.add.Goals as goal
 
-pub add_writer-requires : goal.add_writer-requires
-add_writer-requires c =
+pub returns-then-is_none-2-clause-fit : goal.returns-then-is_none-2-clause-fit
+returns-then-is_none-2-clause-fit c =
     let s = c.args.self.now in
-    λ w at. is_new (kept_of s) (values_of s) (owner_of s) c.requires.fit c.args.number c.requires.new c.args.text.now w at
+    let w : KeptWrite = c.in_ok-begun-2.field-0 in
+    (in_second s c.requires.fit c.args.number c.requires.new w (ap (λ (x : KeptWrite). x.end) c.in_ok-begun-2.ensures)
+    (none_of s.second c.is_none-2.result c.is_none-2.ensures c.if-is_none-2.true)).fit
 
 pub returns-clause-fit : goal.returns-clause-fit
 returns-clause-fit c =
     let s = c.args.self.now in
-    let text = c.args.text.now in
-    let a = c.in_ok-add_writer.ensures in
-    let values = text_at c.add_writer.new.values in
-    let b = by_sets (values_of s) text values a.0 (inl (
-      c.args.number,
-      there (begin_at a.0.begins c.args.number) c.args.place
-          a.1.here,
-    )) a.2 in
-    let writes = entry_at c.insert.new.self.entries in
-    let put = sets_entry s.by_number c.insert.new.self c.args.number c.in_ok-begun.field-0 c.in_ok-insert.ensures.updates in
-    indexed_added (kept_of s) (values_of s) (owner_of s) c.requires.fit c.args.number c.args.place text c.requires.new a.0 a.1 values b
-    writes
-    (subst (λ (k : KeptWrite). Sets (kept_of s) c.args.number k writes) c.in_ok-begun.ensures put)
+    let k : KeptWrite = record { value = c.args.text.now; begin = c.args.place; end = None } in
+    on_ok_three c.add.result
+    (λ mapped sets same. (in_more s c.requires.fit c.args.number c.requires.new k refl c.add.new.self mapped sets same).fit)
+    c.add.ensures.fit c.add.ensures.kept c.add.ensures.ends

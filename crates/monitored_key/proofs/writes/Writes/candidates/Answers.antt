@@ -1,38 +1,29 @@
-use Rattle.std.proofs.Common.{◌≡◌, Option, Some, None, sym, subst, ◌∙◌, refl}
-use Rattle.std.proofs.lemmas.Option.{none-some}
-use Rattle.kept_writers.specs.Candidates.{AreCandidates}
-use Rattle.kept_writers.specs.Written.{Written}
-use Rattle.kept_writers.specs.declared.readable.Candidates.TheVariants as candidates
-use Rattle.monitored_key.specs.Indexed.{kept_of, owner_of, values_of}
-use Rattle.monitored_key.specs.Indexes.{written_or_none}
-use Rattle.monitored_key.proofs.Finding.{ended_of}
-use Rattle.monitored_key.proofs.Fresh.{readable}
+use Rattle.monitored_key.specs.Indexed.{owner_in}
+use Rattle.monitored_key.specs.WritesOf.{rest_of, rest_owner}
+use Rattle.monitored_key.proofs.Front.{free_in, high_others, high_slot}
 use Rattle.monitored_key.proofs.writes.Writes.candidates.Goals as goal
 
-pub candidates-requires : goal.candidates-requires
-candidates-requires c = λ e n at.
+pub candidates-more-requires-clause-high : goal.candidates-more-requires-clause-high
+candidates-more-requires-clause-high c =
     let s = c.args.self.now in
-    let text = c.args.text.now in
-    let is : values_of s text ≡ Some c.in-Some.writers.now = sym c.in-Some.ensures.value in
-    let k = c.requires.fit.is_ended text n e (ended_of (values_of s) text c.in-Some.writers.now is e ∙ at) in
-    c.requires.high e n (c.requires.fit.owned n e k.0 k.1 k.3)
+    let floor = c.args.zones.now.floor in
+    high_others s.second s.more.by_number.entries (owner_in s.more) floor c.requires.fit.second
+    (high_others s.first (rest_of s) (rest_owner s) floor c.requires.fit.first c.requires.high)
 
-pub returns-in-Some : goal.returns-in-Some
-returns-in-Some c =
+pub candidates_beside-rest-requires : goal.candidates_beside-rest-requires
+candidates_beside-rest-requires c =
     let s = c.args.self.now in
-    let text = c.args.text.now in
-    let zones = c.args.zones.now in
-    let is : values_of s text ≡ Some c.in-Some.writers.now = sym c.in-Some.ensures.value in
-    readable (kept_of s) (values_of s) (owner_of s) c.requires.fit zones c.args.begin text c.candidates.result
-    (subst (λ (o : Option Written). AreCandidates (written_or_none o).begins (written_or_none o).ends zones.zones c.args.begin
-    c.candidates.result) (sym is) c.candidates.ensures)
+    let floor = c.args.zones.now.floor in
+    high_slot s.second (owner_in s.more) floor (high_others s.first (rest_of s) (rest_owner s) floor c.requires.fit.first c.requires.high)
 
-pub returns-in-None : goal.returns-in-None
-returns-in-None c =
+pub candidates_beside-requires : goal.candidates_beside-requires
+candidates_beside-requires c =
     let s = c.args.self.now in
-    let text = c.args.text.now in
-    let zones = c.args.zones.now in
-    let is : values_of s text ≡ None = sym c.in-None.ensures.value in
-    readable (kept_of s) (values_of s) (owner_of s) c.requires.fit zones c.args.begin text candidates.None
-    (subst (λ (o : Option Written). AreCandidates (written_or_none o).begins (written_or_none o).ends zones.zones c.args.begin
-    candidates.None) (sym is) (λ n. refl, λ e n at. absurd (none-some n at)))
+    high_slot s.first (rest_owner s) c.args.zones.now.floor c.requires.high
+
+pub returns : goal.returns
+returns c =
+    let s = c.args.self.now in
+    let es = s.more.by_number.entries in
+    c.candidates_beside.ensures (rest_of s) (free_in s.first (rest_of s) (rest_owner s) c.requires.fit.first)
+    (c.candidates_beside-rest.ensures es (free_in s.second es (owner_in s.more) c.requires.fit.second) c.candidates-more.ensures)

@@ -1,49 +1,33 @@
-use Rattle.std.proofs.Common.{List, ℕ, ◌≡◌, Option, inr, sym, ap, subst, ◌∙◌}
-use Rattle.std.proofs.lemmas.Option.{same_Some}
-use Rattle.kept_writers.specs.Candidates.{begin_at}
-use Rattle.kept_writers.specs.Ends.{number_at}
-use Rattle.kept_writers.specs.Written.{HasEnd, Written}
-use Rattle.monitored_key.specs.Indexed.{kept_of, owner_of, values_of}
-use Rattle.monitored_key.specs.Indexes.{written_or_none}
-use Rattle.key_monitor.specs.KeptWrites.{KeptWrite}
-use Rattle.monitored_key.specs.Maps.{entry_at, text_at}
-use Rattle.monitored_key.proofs.Finding.{begun_at, free_end}
-use Rattle.monitored_key.proofs.Indexing.{Become, by_sets, indexed_ended}
-use Rattle.monitored_key.proofs.Maps.{sets_entry, there}
+use Rattle.monitored_key.proofs.Keeping.{on_ok_three}
+use Rattle.monitored_key.proofs.Paths.{ended_kept, ended_more, ended_second, more_at}
 use Rattle.monitored_key.proofs.writes.Writes.end.Goals as goal
 
-pub end_writer-requires : goal.end_writer-requires
-end_writer-requires c =
+pub returns-then-end_at-2-clause-fit : goal.returns-then-end_at-2-clause-fit
+returns-then-end_at-2-clause-fit c =
     let s = c.args.self.now in
-    let number = c.args.number in
-    let o = c.requires.there in
-    let same : o.0 ≡ c.in-Some.write.now = same_Some o.0 c.in-Some.write.now (sym o.1 ∙ sym c.in-Some.ensures.value) in
-    let text : c.text.result.now ≡ o.0.value = c.text.ensures ∙ ap (λ (k : KeptWrite). k.value) (sym same) in
-    let b = begun_at (values_of s) o.0.value number o.0.begin (c.requires.fit.begun number o.0 o.1 o.2) in
-    record {
-      there = (
-        b.0,
-        ap (values_of s) text ∙ b.1,
-        there (begin_at b.0.begins number) o.0.begin b.2,
-        free_end (kept_of s) (values_of s) (owner_of s) c.requires.fit c.args.place c.requires.free o.0.value b.0 b.1,
-      );
-    }
+    let e = ended_second s c.requires.fit c.args.number c.args.place c.requires.there c.requires.free c.end_at.new.slot c.end_at.result
+    c.if-end_at.false c.end_at.ensures c.end_at-2.new.slot c.end_at-2.result c.if-end_at-2.true c.end_at-2.ensures in
+    e.fit
 
 pub returns-clause-fit : goal.returns-clause-fit
 returns-clause-fit c =
     let s = c.args.self.now in
-    let number = c.args.number in
-    let place = c.args.place in
-    let o = c.requires.there in
-    let same : o.0 ≡ c.in-Some.write.now = same_Some o.0 c.in-Some.write.now (sym o.1 ∙ sym c.in-Some.ensures.value) in
-    let text : c.text.result.now ≡ o.0.value = c.text.ensures ∙ ap (λ (k : KeptWrite). k.value) (sym same) in
-    let at = begun_at (values_of s) o.0.value number o.0.begin (c.requires.fit.begun number o.0 o.1 o.2) in
-    let values = text_at c.end_writer.new.values in
-    let f = c.in_ok-end_writer.ensures at.0 (ap (values_of s) text ∙ at.1) in
-    let b : Become (values_of s) c.text.result.now values f.0 = by_sets (values_of s) c.text.result.now values f.0
-    (inr (place, there (number_at f.0.ends place) number f.1.here)) f.2 in
-    indexed_ended (kept_of s) (values_of s) (owner_of s) c.requires.fit number place o.0 o.1 o.2 c.requires.free f.0
-    (subst (λ (x : Option Written). HasEnd (written_or_none x) number place f.0) (sym at.1) f.1) values
-    (subst (λ (v : List ℕ). Become (values_of s) v values f.0) text b)
-    (entry_at c.set_end.new.writes.entries) (c.set_end.ensures o.0 o.1)
-    (entry_at c.insert.new.self.entries) (sets_entry s.by_end c.insert.new.self place number c.in_ok-insert.ensures.updates)
+    let at = more_at s c.requires.fit c.args.number c.args.place c.requires.there c.requires.free c.end_at.new.slot c.end_at.result
+    c.if-end_at.false c.end_at.ensures c.end_at-2.new.slot c.end_at-2.result c.if-end_at-2.false c.end_at-2.ensures in
+    on_ok_three c.end.result
+    (λ mapped sets owns. (ended_more s c.requires.fit c.args.number c.args.place c.requires.there c.requires.free c.end_at.new.slot c.end_at.result
+    c.if-end_at.false c.end_at.ensures c.end_at-2.new.slot c.end_at-2.result c.if-end_at-2.false c.end_at-2.ensures
+    c.end.new.self mapped sets owns).fit)
+    c.end.ensures.fit (c.end.ensures.kept c.requires.there.0 at) c.end.ensures.ends
+
+pub returns-clause-kept : goal.returns-clause-kept
+returns-clause-kept c = λ k is.
+    let s = c.args.self.now in
+    let there = c.requires.there in
+    let at = more_at s c.requires.fit c.args.number c.args.place c.requires.there c.requires.free c.end_at.new.slot c.end_at.result
+    c.if-end_at.false c.end_at.ensures c.end_at-2.new.slot c.end_at-2.result c.if-end_at-2.false c.end_at-2.ensures in
+    on_ok_three c.end.result
+    (λ mapped sets owns. ended_kept s c.args.number c.args.place there.0 _ there.1 (ended_more s c.requires.fit c.args.number c.args.place c.requires.there c.requires.free c.end_at.new.slot c.end_at.result
+    c.if-end_at.false c.end_at.ensures c.end_at-2.new.slot c.end_at-2.result c.if-end_at-2.false c.end_at-2.ensures
+    c.end.new.self mapped sets owns) k is)
+    c.end.ensures.fit (c.end.ensures.kept there.0 at) c.end.ensures.ends

@@ -1,42 +1,50 @@
-use Rattle.std.proofs.Common.{List, ℕ, ◌≡◌, Option, inl, inr, sym, ap, subst, ◌∙◌}
-use Rattle.kept_writers.specs.Ends.{number_at}
-use Rattle.kept_writers.specs.Written.{LacksEnd, Written}
-use Rattle.monitored_key.specs.Indexed.{kept_of, owner_of, values_of}
-use Rattle.monitored_key.specs.Indexes.{written_or_none}
-use Rattle.key_monitor.specs.KeptWrites.{KeptWrite}
-use Rattle.monitored_key.specs.Maps.{entry_at, text_at}
-use Rattle.std.proofs.lemmas.Option.{same_Some}
-use Rattle.monitored_key.proofs.Finding.{ended_at}
-use Rattle.monitored_key.proofs.Indexing.{Become, by_lacks, by_sets, indexed_gone}
-use Rattle.monitored_key.proofs.Maps.{lacks_entry, there}
+use Rattle.monitored_key.proofs.Paths.{gone_first, gone_kept, gone_more, gone_second, more_owner}
 use Rattle.monitored_key.proofs.writes.Writes.forget.Goals as goal
 
-pub forget_writer-requires : goal.forget_writer-requires
-forget_writer-requires c =
+pub returns-then-forget_at-clause-fit : goal.returns-then-forget_at-clause-fit
+returns-then-forget_at-clause-fit c =
     let s = c.args.self.now in
-    let o = c.requires.fit.owner c.args.end c.in-Some.number (sym c.in-Some.ensures.value) in
-    let same : o.0 ≡ c.in-Some-remove.write = same_Some o.0 c.in-Some-remove.write (sym o.1 ∙ sym c.in-Some-remove.ensures.value) in
-    let text : o.0.value ≡ c.text.result.now = ap (λ (k : KeptWrite). k.value) same ∙ sym c.text.ensures in
-    let e = ended_at (values_of s) o.0.value c.in-Some.number c.args.end (c.requires.fit.ended c.in-Some.number c.args.end o.0 o.1 o.2) in
-    record { there = (e.0, ap (values_of s) (sym text) ∙ e.1, there (number_at e.0.ends c.args.end) c.in-Some.number e.2) }
+    let g = gone_first s c.requires.fit c.args.end c.forget_at.new.slot c.forget_at.result c.if-forget_at.true c.forget_at.ensures in
+    g.2.fit
+
+pub returns-then-forget_at-2-clause-fit : goal.returns-then-forget_at-2-clause-fit
+returns-then-forget_at-2-clause-fit c =
+    let s = c.args.self.now in
+    let g = gone_second s c.requires.fit c.args.end c.forget_at.new.slot c.forget_at.result c.if-forget_at.false c.forget_at.ensures
+    c.forget_at-2.new.slot c.forget_at-2.result c.if-forget_at-2.true c.forget_at-2.ensures in
+    g.2.fit
+
+pub returns-then-forget_at-clause-kept : goal.returns-then-forget_at-clause-kept
+returns-then-forget_at-clause-kept c =
+    let s = c.args.self.now in
+    let g = gone_first s c.requires.fit c.args.end c.forget_at.new.slot c.forget_at.result c.if-forget_at.true c.forget_at.ensures in
+    gone_kept s c.args.end g.0 g.1 _ g.2
+
+pub returns-then-forget_at-2-clause-kept : goal.returns-then-forget_at-2-clause-kept
+returns-then-forget_at-2-clause-kept c =
+    let s = c.args.self.now in
+    let g = gone_second s c.requires.fit c.args.end c.forget_at.new.slot c.forget_at.result c.if-forget_at.false c.forget_at.ensures
+    c.forget_at-2.new.slot c.forget_at-2.result c.if-forget_at-2.true c.forget_at-2.ensures in
+    gone_kept s c.args.end g.0 g.1 _ g.2
 
 pub returns-clause-fit : goal.returns-clause-fit
 returns-clause-fit c =
     let s = c.args.self.now in
-    let end = c.args.end in
-    let number = c.in-Some.number in
-    let o = c.requires.fit.owner end number (sym c.in-Some.ensures.value) in
-    let same : o.0 ≡ c.in-Some-remove.write = same_Some o.0 c.in-Some-remove.write (sym o.1 ∙ sym c.in-Some-remove.ensures.value) in
-    let text : c.text.result.now ≡ o.0.value = c.text.ensures ∙ ap (λ (k : KeptWrite). k.value) (sym same) in
-    let e = ended_at (values_of s) o.0.value number end (c.requires.fit.ended number end o.0 o.1 o.2) in
-    let values = text_at c.forget_writer.new.values in
-    let f = c.forget_writer.ensures e.0 (ap (values_of s) text ∙ e.1) in
-    let b : Become (values_of s) c.text.result.now values f.0 = elim f.2 [
-      | inl none ↦ by_lacks (values_of s) c.text.result.now values f.0 none.0 none.1
-      | inr some ↦ by_sets (values_of s) c.text.result.now values f.0 some.0 some.1
-    ] in
-    indexed_gone (kept_of s) (values_of s) (owner_of s) c.requires.fit number end o.0 o.1 o.2 f.0
-    (subst (λ (x : Option Written). LacksEnd (written_or_none x) end f.0) (sym e.1) f.1) values
-    (subst (λ (v : List ℕ). Become (values_of s) v values f.0) text b)
-    (entry_at c.remove-2.new.self.entries) (lacks_entry s.by_number c.remove-2.new.self number c.remove-2.ensures.updates)
-    (entry_at c.remove.new.self.entries) (lacks_entry s.by_end c.remove.new.self end c.remove.ensures.updates)
+    let o = more_owner s c.requires.fit c.args.end c.forget_at.new.slot c.forget_at.result c.if-forget_at.false c.forget_at.ensures
+    c.forget_at-2.new.slot c.forget_at-2.result c.if-forget_at-2.false c.forget_at-2.ensures
+    c.requires.there in
+    let g = gone_more s c.requires.fit c.args.end c.forget_at.new.slot c.forget_at.result c.if-forget_at.false c.forget_at.ensures
+    c.forget_at-2.new.slot c.forget_at-2.result c.if-forget_at-2.false c.forget_at-2.ensures o.0 o.1 o.2 o.3 o.4
+    c.forget.new.self c.forget.ensures.fit (c.forget.ensures.kept o.0 o.1 o.2 o.3).1 c.forget.ensures.ends c.forget.ensures.fewer in
+    g.fit
+
+pub returns-clause-kept : goal.returns-clause-kept
+returns-clause-kept c =
+    let s = c.args.self.now in
+    let o = more_owner s c.requires.fit c.args.end c.forget_at.new.slot c.forget_at.result c.if-forget_at.false c.forget_at.ensures
+    c.forget_at-2.new.slot c.forget_at-2.result c.if-forget_at-2.false c.forget_at-2.ensures
+    c.requires.there in
+    let g = gone_more s c.requires.fit c.args.end c.forget_at.new.slot c.forget_at.result c.if-forget_at.false c.forget_at.ensures
+    c.forget_at-2.new.slot c.forget_at-2.result c.if-forget_at-2.false c.forget_at-2.ensures o.0 o.1 o.2 o.3 o.4
+    c.forget.new.self c.forget.ensures.fit (c.forget.ensures.kept o.0 o.1 o.2 o.3).1 c.forget.ensures.ends c.forget.ensures.fewer in
+    gone_kept s c.args.end o.0 o.1 _ g
