@@ -38,5 +38,5 @@ module _ (rows : List Row) (old new : Option Taken) (taken : HasTaken rows old) 
 
   pub answered : (row : Row) (answer : Result (Unit {0}) CallRefusal) → Takes rows old row answer new
       → IsTakenAfter HasTaken rows row (line_answer answer) new
-  answered row (Ok done) t = t
+  answered row (Ok done) t = (t.0, t.1)
   answered row (Err why) t = refused row why t

@@ -20,3 +20,4 @@ pub mod Finishing
 pub mod Meaning
 pub mod Rows
 pub mod PlacedCalls
+pub mod AnsweredCalls

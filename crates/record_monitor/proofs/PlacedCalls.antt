@@ -1,18 +1,15 @@
 -- Calls by their places, after a change of one.
-use Rattle.std.proofs.Common.{ℕ, ◌≡◌, ◌<◌, ◌+◌, get_or, arith, inl, inr, List, Option, Some, IsSome, is_some, ap, sym, ◌∙◌, subst, refl}
+use Rattle.std.proofs.Common.{ℕ, ◌≡◌, ◌≢◌, inl, inr, List, Option, Some, IsSome, is_some, ap, sym, ◌∙◌, subst, refl}
 use Rattle.std.proofs.lemmas.Bool.{cases_eq}
-use Rattle.std.proofs.lemmas.Option.{get_or_from_slice_get, none-some, same_Some}
+use Rattle.std.proofs.lemmas.Option.{none-some, same_Some}
 use Rattle.std.specs.BTreeMap.{BTreeMap}
-use Rattle.std.specs.List.{slice_get}
 use Rattle.tag.specs.declared.numbers.OpId.{OpId}
 use Rattle.tag.proofs.SameTags.{same_op}
 use Rattle.recorder.specs.declared.row.Row.{Row}
-use Rattle.monitored_key.specs.declared.kept_zone.KeptZone.{KeptZone}
 use Rattle.monitored_key.specs.Maps.{Lacks, Sets}
-use Rattle.record_monitor.specs.declared.key_calls.KeyCalls.{KeyCalls}
 use Rattle.record_monitor.specs.declared.told.ToldCall.{ToldCall}
 use Rattle.record_monitor.specs.declared.told.ToldNote.{ToldNote}
-use Rattle.record_monitor.specs.KeyCalls.{AreEndedAt, AreToldAt, IsWithin, StaysIn, call_in}
+use Rattle.record_monitor.specs.KeyCalls.{AreToldAt, call_in}
 use Rattle.record_monitor.specs.Told.{HasNoteAt, IsToldCall}
 
 -- what holds of each entry holds after one is set of which it holds
@@ -32,6 +29,10 @@ all_lack P old new k l h q x at = elim (cases_eq q k) [
   | inl same ↦ absurd (none-some x (sym l.here ∙ (ap new (sym same) ∙ at)))
   | inr apart ↦ h q x (sym (l.others q apart) ∙ at)
 ]
+
+-- where one was, one is after another is taken out
+pub stays_lack : {X : Type 0} (old new : ℕ → Option X) (k : ℕ) → Lacks old k new → (q : ℕ) → q ≢ k → IsSome (old q) → IsSome (new q)
+stays_lack old new k l q apart there = ap is_some (l.others q apart) ∙ there
 
 -- where one was, one is after one is set
 pub stays_set : {X : Type 0} (old new : ℕ → Option X) (k : ℕ) (v : X) → Sets old k v new → (q : ℕ) → IsSome (old q) → IsSome (new q)
@@ -55,50 +56,13 @@ module _ (rows : List Row) (key : List ℕ) where
     answered = t.answered;
   }
 
-  -- calls that are told stay so in a map with fewer of them
-  pub told_within : (some all : BTreeMap ℕ ToldCall) → IsWithin some all → AreToldAt rows key all → AreToldAt rows key some
-  told_within some all w t place call at = t place call (w place call at)
-
-  pub ended_within : (some all : BTreeMap ℕ ToldCall) → IsWithin some all → AreEndedAt rows key all → AreEndedAt rows key some
-  ended_within some all w t place call at = t place call (w place call at)
-
   -- one more is told
   pub told_set : (old new : BTreeMap ℕ ToldCall) (call : ToldCall) → Sets (call_in old) call.begun call (call_in new)
       → IsToldCall rows key call → AreToldAt rows key old → AreToldAt rows key new
   told_set old new call s t h = all_set (λ q x. IsToldCall rows key x × (x.begun ≡ q)) (call_in old) (call_in new) call.begun call s
       (t, refl) h
 
-  pub ended_set : (old new : BTreeMap ℕ ToldCall) (place : ℕ) (call : ToldCall) → Sets (call_in old) place call (call_in new)
-      → IsToldCall rows key call → call.answered ≡ Some place → AreEndedAt rows key old → AreEndedAt rows key new
-  ended_set old new place call s t e h = all_set (λ q x. IsToldCall rows key x × (x.answered ≡ Some q)) (call_in old) (call_in new) place
-      call s (t, e) h
-
   -- one goes
   pub told_lack : (old new : BTreeMap ℕ ToldCall) (k : ℕ) → Lacks (call_in old) k (call_in new) → AreToldAt rows key old
       → AreToldAt rows key new
   told_lack old new k l h = all_lack (λ q x. IsToldCall rows key x × (x.begun ≡ q)) (call_in old) (call_in new) k l h
-
--- the maps have what the calls had of the first of the zones
-pub record IsOver (calls : KeyCalls) (answered ended : BTreeMap ℕ ToldCall) (zone : KeptZone) : Type 0 where
-  pub write : IsSome (call_in calls.answered zone.begin) → IsSome (call_in answered zone.begin)
-  pub last : IsSome (call_in calls.answered zone.last) → IsSome (call_in answered zone.last)
-  pub end : IsSome (call_in calls.ended zone.end) → IsSome (call_in ended zone.end)
-
-abbrev pub AreOver : KeyCalls → BTreeMap ℕ ToldCall → BTreeMap ℕ ToldCall → List KeptZone → ℕ → Type 0
-AreOver calls answered ended zones count =
-    (k : ℕ) (zone : KeptZone) → k < count → slice_get zones k ≡ Some zone → IsOver calls answered ended zone
-
--- with what they had, and what the calls had of the next zone
-pub over_more : (calls : KeyCalls) (a e a' e' : BTreeMap ℕ ToldCall) (zones : List KeptZone) (count : ℕ) (d : KeptZone)
-    → AreOver calls a e zones count → StaysIn a a' → StaysIn e e' → IsOver calls a' e' (get_or zones count d)
-    → AreOver calls a' e' zones (count + 1)
-over_more calls a e a' e' zones count d o sa se last k zone less at = elim (cases_eq k count) [
-  | inl same ↦ subst (IsOver calls a' e') (ap (λ n. get_or zones n d) (sym same) ∙ get_or_from_slice_get zones k zone d at) last
-  | inr apart ↦
-      let w = o k zone (omega arith) at in
-      record {
-        write = λ h. sa zone.begin (w.write h);
-        last = λ h. sa zone.last (w.last h);
-        end = λ h. se zone.end (w.end h);
-      }
-]

@@ -1,5 +1,6 @@
 -- What is told stays so with a row more.
 use Rattle.std.proofs.Common.{ℕ, ◌≡◌, List, [], ◌∷◌, ◌++◌, Option, Some, None, IfSome, length, sym, ◌∙◌, subst}
+use Rattle.std.proofs.lemmas.List.Elements.{All-weaker}
 use Rattle.std.specs.BTreeMap.{BTreeMap}
 use Rattle.std.specs.List.{slice_get}
 use Rattle.tag.specs.declared.actions.Action.{Action}
@@ -9,13 +10,14 @@ use Rattle.recorder.specs.declared.row.Row.{Row}
 use Rattle.recorder.specs.declared.row.Row.TheVariants.{Invoke, Note, Respond}
 use Rattle.recorder.specs.States.{is_write}
 use Rattle.record_monitor.specs.declared.key_calls.KeyCalls.{KeyCalls}
+use Rattle.record_monitor.specs.declared.key_calls.ReadNote.{ReadNote}
 use Rattle.record_monitor.specs.declared.told.Told.{Told}
 use Rattle.record_monitor.specs.declared.told.Told.TheVariants as told
 use Rattle.record_monitor.specs.declared.told.ToldCall.{ToldCall}
 use Rattle.record_monitor.specs.declared.told.ToldSide.{ToldSide}
 use Rattle.record_monitor.specs.declared.watched.Watched.{Watched}
 use Rattle.record_monitor.specs.Followed.{AreTold, KeepsTold}
-use Rattle.record_monitor.specs.KeyCalls.{AreEndedAt, AreToldAt, KnowsCalls}
+use Rattle.record_monitor.specs.KeyCalls.{AreNotes, AreToldAt, KnowsCalls}
 use Rattle.record_monitor.specs.Told.{AnswersWith, HasAnswerAt, HasNoteAt, IsBareCall, IsTold, IsToldCall, IsToldSide}
 
 if_weaker : {X : Type 0} (P Q : X → Type 0) (o : Option X) → ((x : X) → P x → Q x) → IfSome o P → IfSome o Q
@@ -72,15 +74,14 @@ module _ (rows : List Row) (row : Row) where
     placed_on : (map : BTreeMap ℕ ToldCall) → AreToldAt rows key map → AreToldAt after key map
     placed_on map t place call at = let w = t place call at in (told_on call w.0, w.1)
 
-    ended_on : (map : BTreeMap ℕ ToldCall) → AreEndedAt rows key map → AreEndedAt after key map
-    ended_on map t place call at = let w = t place call at in (told_on call w.0, w.1)
+    notes_on : (notes : BTreeMap ℕ ReadNote) → AreNotes rows notes → AreNotes after notes
+    notes_on notes t place noted at = slice_get-push_left rows row noted.note.place (Note noted.op noted.note.tag) (t place noted at)
 
     knows_on : (calls : KeyCalls) → KnowsCalls rows key calls → KnowsCalls after key calls
     knows_on calls k = record {
-      reads = placed_on calls.reads k.reads;
       writes = placed_on calls.writes k.writes;
-      answered = placed_on calls.answered k.answered;
-      ended = ended_on calls.ended k.ended;
+      notes = notes_on calls.notes k.notes;
+      answered = All-weaker (IsToldCall rows key) (IsToldCall after key) told_on calls.answered.items k.answered;
       first = if_weaker (λ shown. IsToldCall rows key shown.call) (λ shown. IsToldCall after key shown.call) calls.first
           (λ shown t. told_on shown.call t) k.first;
     }

@@ -1,34 +1,57 @@
 -- What is kept of the calls of a key, for what is told.
-use Rattle.std.specs.Prelude.{ℕ, ◌≡◌, ◌⊎◌, List, Option, Some, IfSome, IsSome}
+use Rattle.std.specs.Prelude.{ℕ, ◌≡◌, ◌≢◌, ◌⊎◌, ◌||◌, ◌==◌, Bool, false, List, Option, Some, None}
+use Rattle.std.specs.Prelude.{IfSome, IsSome, IsTrue, All}
 use Rattle.std.specs.BTreeMap.{BTreeMap}
+use Rattle.std.specs.BTreeSet.{BTreeSet, contains}
+use Rattle.std.specs.List.{list_any}
+use Rattle.std.specs.Ordering.{nat_cmp}
 use Rattle.recorder.specs.declared.row.Row.{Row}
 use Rattle.monitored_key.specs.declared.kept_zone.KeptZone.{KeptZone}
 use Rattle.monitored_key.specs.Maps.{entry_at}
 use Rattle.record_monitor.specs.declared.key_calls.KeyCalls.{KeyCalls}
+use Rattle.record_monitor.specs.declared.key_calls.ReadNote.{ReadNote}
 use Rattle.record_monitor.specs.declared.told.ToldCall.{ToldCall}
-use Rattle.record_monitor.specs.Told.{IsToldCall}
+use Rattle.record_monitor.specs.Told.{HasNoteAt, IsToldCall}
 
 -- what the map has there, if it has a call there
 abbrev pub call_in : BTreeMap ℕ ToldCall → ℕ → Option ToldCall
 call_in map place = entry_at map.entries place
 
--- each call of the one map is in the other, at the same place
-abbrev pub IsWithin : BTreeMap ℕ ToldCall → BTreeMap ℕ ToldCall → Type 0
-IsWithin some all =
-    (place : ℕ) (call : ToldCall) → call_in some place ≡ Some call → call_in all place ≡ Some call
-
 -- where the one map has a call, the other has one
 abbrev pub StaysIn : BTreeMap ℕ ToldCall → BTreeMap ℕ ToldCall → Type 0
 StaysIn old new = (place : ℕ) → IsSome (call_in old place) → IsSome (call_in new place)
 
+-- so it is at each place but one
+abbrev pub StaysBut : ℕ → BTreeMap ℕ ToldCall → BTreeMap ℕ ToldCall → Type 0
+StaysBut one old new =
+    (place : ℕ) → place ≢ one → IsSome (call_in old place) → IsSome (call_in new place)
+
+-- whether the call began there
+abbrev pub is_begun_at : ℕ → ToldCall → Bool
+is_begun_at place call = call.begun == place
+
+-- whether a call with that answer was answered there
+abbrev pub is_there : ℕ → Option ℕ → Bool
+is_there place None = false
+is_there place (Some end) = end == place
+
+-- whether the call was answered there
+abbrev pub is_ended_at : ℕ → ToldCall → Bool
+is_ended_at place call = is_there place call.answered
+
 -- a write that is pending or a call that was answered began there, and is kept
 abbrev pub HasBegun : KeyCalls → ℕ → Type 0
-HasBegun calls begin = IsSome (call_in calls.answered begin) ⊎ IsSome (call_in calls.writes begin)
+HasBegun calls begin = IsTrue (list_any (is_begun_at begin) calls.answered.items)
+    ⊎ IsSome (call_in calls.writes begin)
+
+-- a call that was answered there is kept
+abbrev pub HasAnswered : KeyCalls → ℕ → Type 0
+HasAnswered calls end = IsTrue (list_any (is_ended_at end) calls.answered.items)
 
 -- what was kept of begun and of answered calls is kept
 pub record KeepsCalls (old new : KeyCalls) : Type 0 where
   pub begun : (begin : ℕ) → HasBegun old begin → HasBegun new begin
-  pub ended : StaysIn old.ended new.ended
+  pub ended : (end : ℕ) → HasAnswered old end → HasAnswered new end
 
 -- and so is the call that first showed a value
 pub record KeepsAll (old new : KeyCalls) : Type 0 where
@@ -39,7 +62,31 @@ pub record KeepsAll (old new : KeyCalls) : Type 0 where
 pub record GoesOver (old new : KeyCalls) (zone : KeptZone) : Type 0 where
   pub write : HasBegun old zone.begin → HasBegun new zone.begin
   pub last : HasBegun old zone.last → HasBegun new zone.last
-  pub end : IsSome (call_in old.ended zone.end) → IsSome (call_in new.ended zone.end)
+  pub end : HasAnswered old zone.end → HasAnswered new zone.end
+
+-- whether the place is one of these
+abbrev pub is_one_of : BTreeSet ℕ → ℕ → Bool
+is_one_of places place = contains nat_cmp places place
+
+-- whether a call with that answer was answered at one of the places
+abbrev pub is_in : BTreeSet ℕ → Option ℕ → Bool
+is_in places None = false
+is_in places (Some end) = is_one_of places end
+
+-- whether the call began or was answered at one of the places
+abbrev pub has_place : BTreeSet ℕ → ToldCall → Bool
+has_place places call = is_one_of places call.begun || is_in places call.answered
+
+-- the places of the zone are among these
+pub record AreAmong (places : BTreeSet ℕ) (zone : KeptZone) : Type 0 where
+  pub write : IsTrue (is_one_of places zone.begin)
+  pub last : IsTrue (is_one_of places zone.last)
+  pub end : IsTrue (is_one_of places zone.end)
+
+-- each of the notes is one of the rows
+abbrev pub AreNotes : List Row → BTreeMap ℕ ReadNote → Type 0
+AreNotes rows notes = (place : ℕ) (noted : ReadNote) → entry_at notes.entries place ≡ Some noted
+    → HasNoteAt rows noted.op noted.note
 
 module _ (rows : List Row) (key : List ℕ) where
   -- each call of the map is one of the rows, and began where it stands
@@ -47,15 +94,9 @@ module _ (rows : List Row) (key : List ℕ) where
   AreToldAt map = (place : ℕ) (call : ToldCall) → call_in map place ≡ Some call
       → IsToldCall rows key call × (call.begun ≡ place)
 
-  -- each call of the map is one of the rows, and was answered where it stands
-  abbrev pub AreEndedAt : BTreeMap ℕ ToldCall → Type 0
-  AreEndedAt map = (place : ℕ) (call : ToldCall) → call_in map place ≡ Some call
-      → IsToldCall rows key call × (call.answered ≡ Some place)
-
-  -- so it is of all calls that are kept
+  -- all that is kept is of the rows
   pub record KnowsCalls (calls : KeyCalls) : Type 0 where
-    pub reads : AreToldAt calls.reads
     pub writes : AreToldAt calls.writes
-    pub answered : AreToldAt calls.answered
-    pub ended : AreEndedAt calls.ended
+    pub notes : AreNotes rows calls.notes
+    pub answered : All (IsToldCall rows key) calls.answered.items
     pub first : IfSome calls.first (λ shown. IsToldCall rows key shown.call)

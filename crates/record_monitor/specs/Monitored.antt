@@ -20,10 +20,16 @@ abbrev pub HasTaken : List Row → Option Taken → Type 0
 HasTaken rows None = ⊥
 HasTaken rows (Some taken) = KeepsRows rows taken
 
--- the row is taken after those rows, or it is refused: for want of memory all is lost, else nothing
--- changes
+-- for how many rows a read may be pending
+abbrev pub give_up_of : Option Taken → ℕ
+give_up_of None = 0
+give_up_of (Some taken) = taken.give_up
+
+-- the row is taken after those rows, and a read may be pending for as many rows as before; or it is
+-- refused: for want of memory all is lost, else nothing changes
 abbrev pub Takes : List Row → Option Taken → Row → Result ⊤ CallRefusal → Option Taken → Type 0
 Takes rows old row (Ok done) new = MayFollow rows row × HasTaken (rows ++ row ∷ []) new
+    × (give_up_of new ≡ give_up_of old)
 Takes rows old row (Err Memory) new = IsRefusedAfter rows row Memory × IsLost new
 Takes rows old row (Err refusal) new = IsRefusedAfter rows row refusal × (new ≡ old)
 
@@ -47,12 +53,7 @@ abbrev pub watched_of : Option Taken → List Watched
 watched_of None = []
 watched_of (Some taken) = taken.keys.watched.items
 
--- for how many rows a read may be pending
-abbrev pub give_up_of : Option Taken → ℕ
-give_up_of None = 0
-give_up_of (Some taken) = taken.give_up
-
 -- what is left of what was kept, after a row
-abbrev pub left_of : Taken → Result ⊤ CallRefusal → Option Taken
-left_of taken (Err Memory) = None
-left_of taken answer = Some taken
+abbrev pub left_of : Option Taken → Result ⊤ CallRefusal → Option Taken
+left_of kept (Err Memory) = None
+left_of kept answer = kept

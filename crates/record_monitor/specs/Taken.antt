@@ -74,8 +74,10 @@ pub record MayTake (taken : Taken) (row : Row) : Type 0 where
   pub keeps : KeepsKeys (length rows) rows gone taken
   pub may : MayFollow rows row
 
--- the row is taken after those rows, or it is refused, and only for want of memory anything changed
+-- the row is taken after those rows, and a read may be pending for as many rows as before; or it is
+-- refused, and only for want of memory anything changed
 abbrev pub TakesNext : List Row → Taken → Row → Result ⊤ CallRefusal → Taken → Type 0
 TakesNext rows old row (Ok done) new = MayFollow rows row × KeepsRows (rows ++ row ∷ []) new
+    × (new.give_up ≡ old.give_up)
 TakesNext rows old row (Err refusal) new =
     IsRefusedAfter rows row refusal × (refusal ≢ Memory → new ≡ old)

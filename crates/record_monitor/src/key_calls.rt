@@ -1,22 +1,32 @@
 //! Calls of a key by which a refusal is told.
-ghost use Rattle.std.specs.Prelude.{◌≡◌, ℕ, true, List, Some, IfSome, OnOk, IsSome, Contains};
+ghost use Rattle.std.specs.Prelude.{◌≡◌, [], ◌∷◌, ◌++◌, ℕ, true, List, Some, IfOk, IfSome, OnOk, IsSome, IsTrue, Contains, filter, find};
 ghost use Rattle.std.specs.Option.{option_copied};
-ghost use Rattle.std.specs.List.{slice_get};
 ghost use Rattle.recorder.specs.declared.row.Row.{Row};
 ghost use Rattle.monitored_key.specs.declared.kept_zone.KeptZone.{KeptZone as Zone};
 ghost use Rattle.monitored_key.specs.Maps.{Sets};
-ghost use Rattle.record_monitor.specs.KeyCalls.{AreToldAt, GoesOver, HasBegun, IsWithin, KeepsAll, KeepsCalls};
-ghost use Rattle.record_monitor.specs.KeyCalls.{KnowsCalls, StaysIn, call_in};
+ghost use Rattle.record_monitor.specs.KeyCalls.{AreAmong, AreNotes, AreToldAt, GoesOver, HasAnswered, HasBegun};
+ghost use Rattle.record_monitor.specs.KeyCalls.{KeepsAll, KeepsCalls, KnowsCalls, StaysBut, StaysIn};
+ghost use Rattle.record_monitor.specs.KeyCalls.{call_in, has_place, is_begun_at, is_ended_at};
 ghost use Rattle.record_monitor.specs.Told.{EndedAs, HasAnswerAt, HasNoteAt, IsToldCall};
 
 use crate::told::{ToldCall, ToldNote};
 use monitored_key::KeptZone;
 use std::alloc::Global;
-use std::collections::BTreeMap;
+use std::collections::{BTreeMap, BTreeSet};
 use tag::{Memory, OpId};
 
-/// Calls, each at a place.
+/// Calls, each at the place where it began.
 type Placed = BTreeMap<u64, ToldCall>;
+
+/// So few answered calls are kept without asking which of them are needed.
+const FEW: usize = 16;
+
+/// The note of a pending read of that number.
+#[derive(Clone, Copy, Debug, Drop)]
+pub(crate) struct ReadNote {
+    op: OpId,
+    note: ToldNote,
+}
 
 /// A call that showed a value, and that value.
 #[derive(Drop)]
@@ -25,21 +35,19 @@ pub(crate) struct Shown {
     pub value: String,
 }
 
-/// The pending calls of a key, and the answered ones by which a refusal may be told.
+/// The calls of a key by which a refusal may be told.
 ///
-/// These are the writes of the kept families, the calls of them that ended first and that began last, and at most as many
-/// again.
+/// These are the pending writes, and of the answered calls the writes of the kept families, the calls of them that ended first
+/// and that began last, and at most as many again. A pending read is told only once it is answered: of it only a note is kept.
 #[derive(Drop)]
 pub(crate) struct KeyCalls {
     alloc: Global,
-    /// The pending reads, by the place where they began, but for those that were given up.
-    reads: Placed,
     /// The pending writes, by the place where they began.
     writes: Placed,
-    /// Answered calls, by the place where they began.
-    answered: Placed,
-    /// Answered calls, by the place of their response.
-    ended: Placed,
+    /// The notes of pending reads, by the place where these began, but for those that were given up.
+    notes: BTreeMap<u64, ReadNote>,
+    /// Answered calls, in no order.
+    answered: Vec<ToldCall>,
     /// The call that first showed a value.
     first: Option<Shown>,
     /// How many answered calls were left when those were dropped that no family needs.
@@ -62,20 +70,9 @@ fn note_in(calls: &mut Placed, begin: u64, op: OpId, note: &ToldNote)
     }
 }
 
-/// The note of the call that began there, if it is there and has one.
-fn note_of(calls: &Placed, begin: u64, op: OpId) -> Option<ToldNote>
-    ensures { (rows : List Row) (key : List ℕ) → AreToldAt rows key calls.now
-        → IfSome result (HasNoteAt rows op) }
-{
-    match calls.get(&begin) {
-        Some(call) if call.op.0 == op.0 => call.noted,
-        _ => None,
-    }
-}
-
-/// Puts the call there.
-fn put(calls: &mut Placed, place: u64, call: &ToldCall) -> Result<(), Memory>
-    ensures { OnOk result (Sets (call_in calls.old) place call.now (call_in calls.new)) }
+/// Puts the call where it began.
+fn put(calls: &mut Placed, call: &ToldCall) -> Result<(), Memory>
+    ensures { OnOk result (Sets (call_in calls.old) call.now.begun call.now (call_in calls.new)) }
 {
     let ToldCall {
         op,
@@ -86,7 +83,7 @@ fn put(calls: &mut Placed, place: u64, call: &ToldCall) -> Result<(), Memory>
         answered,
     } = *call;
     calls.insert(
-        place,
+        begun,
         ToldCall {
             op,
             client,
@@ -99,16 +96,99 @@ fn put(calls: &mut Placed, place: u64, call: &ToldCall) -> Result<(), Memory>
     Ok(())
 }
 
-/// Copies what stands there, if anything does.
-fn copy(from: &Placed, to: &mut Placed, place: u64) -> Result<(), Memory>
-    ensures within { OnOk result (IsWithin to.old from.now → IsWithin to.new from.now) }
-    ensures stays { OnOk result (StaysIn to.old to.new) }
-    ensures here { OnOk result (IsSome (call_in from.now place) → IsSome (call_in to.new place)) }
+/// Adds the call.
+fn add(calls: &mut Vec<ToldCall>, call: &ToldCall) -> Result<(), Memory>
+    ensures { OnOk result (calls.new.items ≡ calls.old.items ++ call.now ∷ []) }
 {
-    match from.get(&place) {
-        Some(call) => put(to, place, call),
-        None => Ok(()),
+    let ToldCall {
+        op,
+        client,
+        is_write,
+        begun,
+        noted,
+        answered,
+    } = *call;
+    calls.push(ToldCall {
+        op,
+        client,
+        is_write,
+        begun,
+        noted,
+        answered,
+    })?;
+    Ok(())
+}
+
+/// Takes out the write that began there, and gives its note, if it is there and has one.
+fn take_write(writes: &mut Placed, begin: u64, op: OpId) -> Option<ToldNote>
+    ensures note { (rows : List Row) (key : List ℕ) → AreToldAt rows key writes.old
+        → IfSome result (HasNoteAt rows op) }
+    ensures told { (rows : List Row) (key : List ℕ) → AreToldAt rows key writes.old
+        → AreToldAt rows key writes.new }
+    ensures stays { StaysBut begin writes.old writes.new }
+{
+    match writes.remove(&begin) {
+        Some(call) if call.op.0 == op.0 => call.noted,
+        _ => None,
     }
+}
+
+/// Takes out the note of the read that began there, if it has one.
+fn take_note(notes: &mut BTreeMap<u64, ReadNote>, begin: u64, op: OpId) -> Option<ToldNote>
+    ensures note { (rows : List Row) → AreNotes rows notes.old → IfSome result (HasNoteAt rows op) }
+    ensures notes { (rows : List Row) → AreNotes rows notes.old → AreNotes rows notes.new }
+{
+    match notes.remove(&begin) {
+        Some(noted) if noted.op.0 == op.0 => Some(noted.note),
+        _ => None,
+    }
+}
+
+/// The first of the calls that began there.
+fn begun_in(calls: &[ToldCall], place: u64) -> Option<&ToldCall>
+    ensures { option_copied result ≡ find (is_begun_at place) calls.now }
+{
+    calls.iter().find(|call| call.begun == place)
+}
+
+/// The first of the calls that was answered there.
+fn ended_in(calls: &[ToldCall], place: u64) -> Option<&ToldCall>
+    ensures { option_copied result ≡ find (is_ended_at place) calls.now }
+{
+    calls.iter().find(|call| call.is_ended_at(place))
+}
+
+/// The places of the zones.
+fn places_of(alloc: Global, zones: &[KeptZone]) -> Result<BTreeSet<u64>, Memory>
+    ensures { IfOk result (λ places. (zone : Zone) → Contains zones.now zone → AreAmong places zone) }
+{
+    let mut places = BTreeSet::new(alloc);
+    for zone in zones {
+        places.insert(zone.begin)?;
+        places.insert(zone.last)?;
+        places.insert(zone.end)?;
+    }
+    Ok(places)
+}
+
+/// Whether the call began or was answered at one of the places.
+fn has_place(places: &BTreeSet<u64>, call: &ToldCall) -> bool
+    ensures { result ≡ has_place places.now call.now }
+{
+    if places.contains(&call.begun) {
+        return true;
+    }
+    match call.answered {
+        Some(end) => places.contains(&end),
+        None => false,
+    }
+}
+
+/// Keeps the calls that began or were answered at one of the places.
+fn keep_at(calls: &mut Vec<ToldCall>, places: &BTreeSet<u64>)
+    ensures { calls.new.items ≡ filter (has_place places.now) calls.old.items }
+{
+    calls.retain(|call| has_place(places, call));
 }
 
 impl KeyCalls {
@@ -118,10 +198,9 @@ impl KeyCalls {
     {
         KeyCalls {
             alloc,
-            reads: BTreeMap::new(alloc),
             writes: BTreeMap::new(alloc),
-            answered: BTreeMap::new(alloc),
-            ended: BTreeMap::new(alloc),
+            notes: BTreeMap::new(alloc),
+            answered: Vec::new(alloc),
             first: None,
             needed: 0,
         }
@@ -135,20 +214,30 @@ impl KeyCalls {
         ensures here { OnOk result (call.now.is_write ≡ true → HasBegun self.new call.now.begun) }
     {
         if call.is_write {
-            put(&mut self.writes, call.begun, call)
+            put(&mut self.writes, call)
         } else {
-            put(&mut self.reads, call.begun, call)
+            Ok(())
         }
     }
 
     /// The pending call that began there is noted.
-    pub(crate) fn note(&mut self, begin: u64, op: OpId, note: &ToldNote)
-        ensures knows { (rows : List Row) (key : List ℕ) → KnowsCalls rows key self.old
-            → HasNoteAt rows op note.now → KnowsCalls rows key self.new }
+    pub(crate) fn note(
+        &mut self,
+        begin: u64,
+        op: OpId,
+        is_write: bool,
+        note: &ToldNote,
+    ) -> Result<(), Memory>
+        ensures knows { OnOk result ((rows : List Row) (key : List ℕ) → KnowsCalls rows key self.old
+            → HasNoteAt rows op note.now → KnowsCalls rows key self.new) }
         ensures keeps { KeepsAll self.old self.new }
     {
-        note_in(&mut self.reads, begin, op, note);
-        note_in(&mut self.writes, begin, op, note);
+        if is_write {
+            note_in(&mut self.writes, begin, op, note);
+            return Ok(());
+        }
+        self.notes.insert(begin, ReadNote { op, note: *note })?;
+        Ok(())
     }
 
     /// The pending read that began there is given up.
@@ -157,37 +246,57 @@ impl KeyCalls {
             → KnowsCalls rows key self.new }
         ensures keeps { KeepsAll self.old self.new }
     {
-        self.reads.remove(&begin);
+        self.notes.remove(&begin);
     }
 
-    /// The pending call with its answer, and with its note, if it has one.
-    pub(crate) fn answered(&self, call: &ToldCall, place: u64) -> ToldCall
-        ensures told { (rows : List Row) (key : List ℕ) → KnowsCalls rows key self.now
+    /// Takes out what is kept of the pending call, and gives its note, if it has one.
+    fn take_pending(&mut self, call: &ToldCall) -> Option<ToldNote>
+        ensures knows { (rows : List Row) (key : List ℕ) → KnowsCalls rows key self.old
+            → KnowsCalls rows key self.new }
+        ensures note { (rows : List Row) (key : List ℕ) → KnowsCalls rows key self.old
+            → IfSome result (HasNoteAt rows call.now.op) }
+        ensures answered { self.new.answered ≡ self.old.answered }
+        ensures writes { StaysBut call.now.begun self.old.writes self.new.writes }
+    {
+        if call.is_write {
+            take_write(&mut self.writes, call.begun, call.op)
+        } else {
+            take_note(&mut self.notes, call.begun, call.op)
+        }
+    }
+
+    /// The pending call with its answer, and with its note, if it has one. It is kept no longer as pending.
+    pub(crate) fn answered(&mut self, call: &ToldCall, place: u64) -> ToldCall
+        ensures knows { (rows : List Row) (key : List ℕ) → KnowsCalls rows key self.old
+            → KnowsCalls rows key self.new }
+        ensures told { (rows : List Row) (key : List ℕ) → KnowsCalls rows key self.old
             → IsToldCall rows key call.now → HasAnswerAt rows call.now.op place
             → IsToldCall rows key result }
         ensures same { EndedAs call.now place result }
+        ensures answered { self.new.answered ≡ self.old.answered }
+        ensures writes { StaysBut call.now.begun self.old.writes self.new.writes }
     {
-        let pending = if call.is_write {
-            &self.writes
-        } else {
-            &self.reads
-        };
+        let noted = self.take_pending(call);
         ToldCall {
             op: call.op,
             client: call.client,
             is_write: call.is_write,
             begun: call.begun,
-            noted: note_of(pending, call.begun, call.op),
+            noted,
             answered: Some(place),
         }
     }
 
-    /// The call shows the value, as the first if none did before.
-    fn show(&mut self, call: &ToldCall, text: &str) -> Result<(), Memory>
+    /// The call shows the value, if it shows one: as the first if none did before.
+    fn show(&mut self, call: &ToldCall, value: Option<&str>) -> Result<(), Memory>
         ensures knows { OnOk result ((rows : List Row) (key : List ℕ) → KnowsCalls rows key self.old
             → IsToldCall rows key call.now → KnowsCalls rows key self.new) }
-        ensures keeps { OnOk result (KeepsCalls self.old self.new) }
+        ensures answered { self.new.answered ≡ self.old.answered }
+        ensures writes { self.new.writes ≡ self.old.writes }
     {
+        let Some(text) = value else {
+            return Ok(());
+        };
         if self.first.is_none() {
             self.first = Some(Shown {
                 call: *call,
@@ -197,28 +306,17 @@ impl KeyCalls {
         Ok(())
     }
 
-    /// The call is answered, and shows the value, if it shows one.
-    pub(crate) fn end(
-        &mut self,
-        call: &ToldCall,
-        place: u64,
-        value: Option<&str>,
-    ) -> Result<(), Memory>
+    /// The answered call is kept, and shows the value, if it shows one.
+    pub(crate) fn end(&mut self, call: &ToldCall, value: Option<&str>) -> Result<(), Memory>
         ensures knows { OnOk result ((rows : List Row) (key : List ℕ) → KnowsCalls rows key self.old
-            → IsToldCall rows key call.now → call.now.answered ≡ Some place
-            → KnowsCalls rows key self.new) }
+            → IsToldCall rows key call.now → KnowsCalls rows key self.new) }
         ensures keeps { OnOk result (KeepsCalls self.old self.new) }
         ensures begun { OnOk result (HasBegun self.new call.now.begun) }
-        ensures ended { OnOk result (IsSome (call_in self.new.ended place)) }
+        ensures ended { OnOk result ((place : ℕ) → call.now.answered ≡ Some place
+            → HasAnswered self.new place) }
     {
-        put(&mut self.answered, call.begun, call)?;
-        put(&mut self.ended, place, call)?;
-        self.reads.remove(&call.begun);
-        self.writes.remove(&call.begun);
-        match value {
-            Some(text) => self.show(call, text),
-            None => Ok(()),
-        }
+        add(&mut self.answered, call)?;
+        self.show(call, value)
     }
 
     /// The call that began there, if it is kept.
@@ -227,7 +325,7 @@ impl KeyCalls {
             → IfSome result (λ call. IsToldCall rows key call × (call.begun ≡ begin)) }
         ensures there { HasBegun self.now begin → IsSome result }
     {
-        match self.answered.get(&begin) {
+        match begun_in(self.answered.as_slice(), begin) {
             Some(call) => Some(*call),
             None => self.writes.get(&begin).copied(),
         }
@@ -237,9 +335,9 @@ impl KeyCalls {
     pub(crate) fn ended_at(&self, end: u64) -> Option<ToldCall>
         ensures told { (rows : List Row) (key : List ℕ) → KnowsCalls rows key self.now
             → IfSome result (λ call. IsToldCall rows key call × (call.answered ≡ Some end)) }
-        ensures there { IsSome (call_in self.now.ended end) → IsSome result }
+        ensures there { HasAnswered self.now end → IsSome result }
     {
-        self.ended.get(&end).copied()
+        ended_in(self.answered.as_slice(), end).copied()
     }
 
     /// The call that first showed a value.
@@ -253,12 +351,7 @@ impl KeyCalls {
     pub(crate) fn clear(&mut self)
         ensures { (rows : List Row) (key : List ℕ) → KnowsCalls rows key self.new }
     {
-        self.reads.clear();
-        self.writes.clear();
-        self.answered.clear();
-        self.ended.clear();
-        self.first = None;
-        self.needed = 0;
+        *self = KeyCalls::new(self.alloc);
     }
 
     /// What its texts and lists are kept by.
@@ -266,10 +359,10 @@ impl KeyCalls {
         self.alloc
     }
 
-    /// Whether more than half of the answered calls may not be needed.
+    /// Whether the answered calls are many, and more than half of them may not be needed.
     pub(crate) fn is_full(&self) -> bool {
-        let half = self.answered.len() / 2;
-        half > 8 && half > self.needed
+        let count = self.answered.len();
+        count >= FEW && count / 2 >= self.needed
     }
 
     /// Drops the answered calls that no family needs whose zone is among these.
@@ -281,16 +374,11 @@ impl KeyCalls {
         ensures pending { OnOk result (StaysIn self.old.writes self.new.writes) }
         ensures first { OnOk result (self.new.first ≡ self.old.first) }
     {
-        let mut answered = BTreeMap::new(self.alloc);
-        let mut ended = BTreeMap::new(self.alloc);
-        for zone in zones {
-            copy(&self.answered, &mut answered, zone.begin)?;
-            copy(&self.answered, &mut answered, zone.last)?;
-            copy(&self.ended, &mut ended, zone.end)?;
-        }
-        self.needed = answered.len();
-        self.answered = answered;
-        self.ended = ended;
+        let places = places_of(self.alloc, zones)?;
+        keep_at(&mut self.answered, &places);
+        self.needed = self.answered.len();
+        self.answered
+            .shrink_to(FEW.max(self.needed.saturating_mul(4)));
         Ok(())
     }
 }

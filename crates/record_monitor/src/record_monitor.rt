@@ -1,5 +1,5 @@
 //! A monitor of a record.
-ghost use Rattle.std.specs.Prelude.{◌≡◌, ◌-◌, ◌^◌, [], true, ℕ, List, Some, None, IfOk, IfSome, OnErr, count_by, min, slice_get};
+ghost use Rattle.std.specs.Prelude.{◌≡◌, ◌-◌, ◌^◌, [], true, ℕ, List, Some, IfSome, count_by, min, slice_get};
 ghost use Rattle.std.specs.List.{sum_by};
 ghost use Rattle.std.specs.Option.{option_copied};
 ghost use Rattle.tag.specs.Names.{is_key};
@@ -8,7 +8,7 @@ ghost use Rattle.recorder.specs.Histories.{IsWellFormed};
 ghost use Rattle.record_monitor.specs.Taken.{KeepsSome};
 ghost use Rattle.record_monitor.specs.Followed.{is_doubtful, is_refused, kept_of, told_in};
 ghost use Rattle.record_monitor.specs.Told.{IsTold};
-ghost use Rattle.record_monitor.specs.Monitored.{HasTaken, Takes, begun_of, keys_of, left_of, reports_of, watched_of};
+ghost use Rattle.record_monitor.specs.Monitored.{HasTaken, Takes, begun_of, give_up_of, keys_of, left_of, reports_of, watched_of};
 
 use crate::report::Report;
 use crate::taken::Taken;
@@ -49,10 +49,20 @@ impl Model for RecordMonitor {
     ghost invariant = { λ m. IfSome m.taken KeepsSome };
 }
 
+/// Forgets all that was known, if a row was refused for want of memory.
+fn lose(taken: &mut Option<Taken>, answer: &Result<(), CallRefusal>)
+    ensures { taken.new ≡ left_of taken.old answer.now }
+{
+    if matches!(answer, Err(CallRefusal::Memory)) {
+        *taken = None;
+    }
+}
+
 impl RecordMonitor {
     /// No row was taken.
     pub fn new(alloc: Global, give_up: u64) -> RecordMonitor
-        ensures { HasTaken [] result }
+        ensures taken { HasTaken [] result }
+        ensures give_up { give_up_of result ≡ give_up }
     {
         RecordMonitor {
             taken: Some(Taken::new(alloc, give_up)),
@@ -134,27 +144,6 @@ impl RecordMonitor {
         }
     }
 
-    /// Takes out what is kept, if it isn't lost.
-    fn take(&mut self) -> Result<Taken, Memory>
-        ensures kept { IfOk result (λ taken. KeepsSome taken × (self.old ≡ Some taken)) }
-        ensures lost { OnErr result (self.old ≡ None) }
-    {
-        self.taken.take().ok_or(Memory)
-    }
-
-    /// Keeps what is left after a row that was answered so.
-    fn keep(&mut self, taken: Taken, answer: Result<(), CallRefusal>) -> Result<(), CallRefusal>
-        requires { IfSome (left_of taken answer) KeepsSome }
-        ensures kept { self.new ≡ left_of taken answer }
-        ensures answer { result ≡ answer }
-    {
-        self.taken = match answer {
-            Err(CallRefusal::Memory) => None,
-            _ => Some(taken),
-        };
-        answer
-    }
-
     /// A client begins a call on a key.
     pub fn invoke(
         &mut self,
@@ -167,9 +156,12 @@ impl RecordMonitor {
         ensures { (rows : List Row) → IsWellFormed rows → HasTaken rows self.old
             → Takes rows self.old (Row.Invoke op client key.now action.now) result self.new }
     {
-        let mut taken = self.take()?;
+        let Some(taken) = &mut self.taken else {
+            return Err(CallRefusal::Memory);
+        };
         let answer = taken.invoke(op, client, key, action);
-        self.keep(taken, answer)
+        lose(&mut self.taken, &answer);
+        answer
     }
 
     /// A call's tag is fixed.
@@ -177,9 +169,12 @@ impl RecordMonitor {
         ensures { (rows : List Row) → IsWellFormed rows → HasTaken rows self.old
             → Takes rows self.old (Row.Note op tag) result self.new }
     {
-        let mut taken = self.take()?;
+        let Some(taken) = &mut self.taken else {
+            return Err(CallRefusal::Memory);
+        };
         let answer = taken.note(op, tag);
-        self.keep(taken, answer)
+        lose(&mut self.taken, &answer);
+        answer
     }
 
     /// A call is answered.
@@ -187,8 +182,11 @@ impl RecordMonitor {
         ensures { (rows : List Row) → IsWellFormed rows → HasTaken rows self.old
             → Takes rows self.old (Row.Respond op returned.now) result self.new }
     {
-        let mut taken = self.take()?;
+        let Some(taken) = &mut self.taken else {
+            return Err(CallRefusal::Memory);
+        };
         let answer = taken.respond(op, returned);
-        self.keep(taken, answer)
+        lose(&mut self.taken, &answer);
+        answer
     }
 }

@@ -58,7 +58,8 @@ fn call_number(op: OpId) -> u32
 impl Taken {
     /// No row.
     pub(crate) fn new(alloc: Global, give_up: u64) -> Taken
-        ensures { KeepsRows [] result }
+        ensures rows { KeepsRows [] result }
+        ensures give_up { result.give_up ≡ give_up }
     {
         Taken {
             calls: OpenCalls::new(alloc),
@@ -134,6 +135,7 @@ impl Taken {
         requires may { MayTake self.old (Row.Invoke call.now.op call.now.client key.now action.now) }
         requires small { self.old.place < 2 ^ 63 }
         ensures calls { self.new.calls ≡ self.old.calls }
+        ensures give_up { self.new.give_up ≡ self.old.give_up }
         ensures here { OnOk result (slice_get self.new.keys.numbers number ≡ Some key.now) }
         ensures stay { OnOk result ((n : ℕ) (k : List ℕ) → slice_get self.old.keys.numbers n ≡ Some k
             → slice_get self.new.keys.numbers n ≡ Some k) }
@@ -159,27 +161,33 @@ impl Taken {
             → TakesNext rows self.old (Row.Note op tag) result self.new }
     {
         self.calls.note(op)?;
-        self.keep_note(op, tag);
+        self.keep_note(op, tag)?;
         self.end_row();
         Ok(())
     }
 
-    /// The row's note may be told.
-    fn keep_note(&mut self, op: OpId, tag: Tag)
+    /// The row's note may be told, unless it is that of a read that was given up.
+    fn keep_note(&mut self, op: OpId, tag: Tag) -> Result<(), Memory>
         ensures calls { self.new.calls ≡ self.old.calls }
+        ensures give_up { self.new.give_up ≡ self.old.give_up }
         ensures numbers { self.new.keys.numbers ≡ self.old.keys.numbers }
-        ensures keys { (rows : List Row) (gone : List ℕ) (place : ℕ)
+        ensures keys { OnOk result ((rows : List Row) (gone : List ℕ) (place : ℕ)
             → slice_get rows self.old.place ≡ Some (Row.Note op tag)
-            → KeepsKeys place rows gone self.old → KeepsKeys place rows gone self.new }
+            → KeepsKeys place rows gone self.old → KeepsKeys place rows gone self.new) }
     {
-        if let Some(call) = self.calls.call(op) {
-            let begun = call.payload;
-            let note = ToldNote {
-                place: self.place,
-                tag,
-            };
-            self.keys.note(begun.key, begun.place, op, &note);
+        let Some(call) = self.calls.call(op) else {
+            return Ok(());
+        };
+        let begun = call.payload;
+        if !call.is_write && begun.place.saturating_add(self.give_up) < self.place {
+            return Ok(());
         }
+        let note = ToldNote {
+            place: self.place,
+            tag,
+        };
+        self.keys
+            .note(begun.key, begun.place, op, call.is_write, &note)
     }
 
     /// A call is answered.
@@ -204,6 +212,7 @@ impl Taken {
             × IsBegun m.rows self.old.keys.numbers op begun }
         requires small { self.old.place < 2 ^ 63 }
         ensures calls { self.new.calls ≡ self.old.calls }
+        ensures give_up { self.new.give_up ≡ self.old.give_up }
         ensures numbers { self.new.keys.numbers ≡ self.old.keys.numbers }
         ensures keys { OnOk result ((rows : List Row) (gone : List ℕ) → IsWellFormed rows
             → MayFollow rows (Row.Respond op returned.now)
@@ -223,6 +232,7 @@ impl Taken {
             × IsBegun m.rows self.old.keys.numbers op begun }
         requires small { self.old.place < 2 ^ 63 }
         ensures calls { self.new.calls ≡ self.old.calls }
+        ensures give_up { self.new.give_up ≡ self.old.give_up }
         ensures numbers { self.new.keys.numbers ≡ self.old.keys.numbers }
         ensures keys { OnOk result ((rows : List Row) (gone : List ℕ) → IsWellFormed rows
             → MayFollow rows (Row.Respond op answered.Written)
@@ -246,6 +256,7 @@ impl Taken {
             × IsBegun m.rows self.old.keys.numbers op begun }
         requires small { self.old.place < 2 ^ 63 }
         ensures calls { self.new.calls ≡ self.old.calls }
+        ensures give_up { self.new.give_up ≡ self.old.give_up }
         ensures numbers { self.new.keys.numbers ≡ self.old.keys.numbers }
         ensures keys { OnOk result ((rows : List Row) (gone : List ℕ) → IsWellFormed rows
             → MayFollow rows (Row.Respond op (answered.Value (option_copied value.entry)))
@@ -274,6 +285,7 @@ impl Taken {
         requires some { (rows : List Row) × (gone : List ℕ) × KeepsKeys self.old.place rows gone self.old }
         requires small { self.old.place < 2 ^ 63 }
         ensures calls { self.new.calls ≡ self.old.calls }
+        ensures give_up { self.new.give_up ≡ self.old.give_up }
         ensures numbers { self.new.keys.numbers ≡ self.old.keys.numbers }
         ensures keys { (rows : List Row) (gone : List ℕ) → IsWellFormed rows
             → length rows ≡ self.old.place + 1 → KeepsKeys self.old.place rows gone self.old
@@ -290,6 +302,7 @@ impl Taken {
     fn give_up_at(&mut self, begin: u64)
         requires { (rows : List Row) × (gone : List ℕ) × HasMoved self.old.place rows gone self.old }
         ensures calls { self.new.calls ≡ self.old.calls }
+        ensures give_up { self.new.give_up ≡ self.old.give_up }
         ensures numbers { self.new.keys.numbers ≡ self.old.keys.numbers }
         ensures place { self.new.place ≡ self.old.place }
         ensures keys { (rows : List Row) (gone : List ℕ) → IsWellFormed rows

@@ -1,6 +1,7 @@
 //! The calls that show why a key was refused.
-ghost use Rattle.std.specs.Prelude.{MatchBool};
+ghost use Rattle.std.specs.Prelude.{◌≡◌, MatchBool};
 ghost use Rattle.record_monitor.specs.Told.{ToldPrecedes};
+ghost use Rattle.record_monitor.specs.KeyCalls.{is_ended_at};
 
 use tag::{ClientId, OpId, Tag};
 
@@ -72,6 +73,16 @@ impl ToldCall {
     {
         match self.answered {
             Some(place) => place < later.begun,
+            None => false,
+        }
+    }
+
+    /// Whether it was answered at that place.
+    pub(crate) fn is_ended_at(&self, end: u64) -> bool
+        ensures { result ≡ is_ended_at end self.now }
+    {
+        match self.answered {
+            Some(place) => place == end,
             None => false,
         }
     }

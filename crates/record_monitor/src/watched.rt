@@ -179,12 +179,21 @@ impl Watched {
     }
 
     /// A pending call is noted, which may be told.
-    pub(crate) fn note(&mut self, begin: u64, op: OpId, note: &ToldNote)
+    pub(crate) fn note(
+        &mut self,
+        begin: u64,
+        op: OpId,
+        is_write: bool,
+        note: &ToldNote,
+    ) -> Result<(), Memory>
         ensures state { KeepsState self.old self.new }
-        ensures told { (rows : List Row) (key : List ℕ) → AreTold rows key self.old
-            → HasNoteAt rows op note.now → AreTold rows key self.new }
+        ensures told { OnOk result ((rows : List Row) (key : List ℕ) → AreTold rows key self.old
+            → HasNoteAt rows op note.now → AreTold rows key self.new) }
     {
-        self.calls.note(begin, op, note);
+        match self.state {
+            Some(_) => self.calls.note(begin, op, is_write, note),
+            None => Ok(()),
+        }
     }
 
     /// Drops the calls that nothing would be told of, if these may be the most.
@@ -235,7 +244,7 @@ impl Watched {
         match &self.state {
             Some(state) => {
                 let write = self.calls.answered(call, place);
-                self.calls.end(&write, place, state.text(call.op.0))
+                self.calls.end(&write, state.text(call.op.0))
             }
             None => Ok(()),
         }
@@ -259,14 +268,13 @@ impl Watched {
     }
 
     /// The answered read may be told of.
-    fn keep_read(&mut self, read: &ToldCall, value: Option<&str>, place: u64) -> Result<(), Memory>
+    fn keep_read(&mut self, read: &ToldCall, value: Option<&str>) -> Result<(), Memory>
         ensures state { KeepsState self.old self.new }
         ensures told { OnOk result ((rows : List Row) (key : List ℕ) → AreTold rows key self.old
-            → IsToldCall rows key read.now → read.now.answered ≡ Some place
-            → AreTold rows key self.new) }
+            → IsToldCall rows key read.now → AreTold rows key self.new) }
     {
         self.make_room()?;
-        self.calls.end(read, place, value)
+        self.calls.end(read, value)
     }
 
     /// The read has no order: why, is told, and no calls are kept.
@@ -348,7 +356,7 @@ impl Watched {
             return Ok(None);
         }
         let read = self.calls.answered(call, place);
-        self.keep_read(&read, value, place)?;
+        self.keep_read(&read, value)?;
         self.judge(&read, value, place)
     }
 

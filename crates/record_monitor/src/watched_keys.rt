@@ -184,14 +184,23 @@ impl WatchedKeys {
     }
 
     /// A pending call on the key of that number, which began at `begin`, is noted.
-    pub(crate) fn note(&mut self, number: usize, begin: u64, op: OpId, note: &ToldNote)
+    pub(crate) fn note(
+        &mut self,
+        number: usize,
+        begin: u64,
+        op: OpId,
+        is_write: bool,
+        note: &ToldNote,
+    ) -> Result<(), Memory>
         ensures numbers { self.new.numbers ≡ self.old.numbers }
-        ensures watched { (most : ℕ) (rows : List Row) (gone : List ℕ) → HasNoteAt rows op note.now
-            → AreWatched most rows gone self.old → AreWatched most rows gone self.new }
+        ensures watched { OnOk result ((most : ℕ) (rows : List Row) (gone : List ℕ)
+            → HasNoteAt rows op note.now → AreWatched most rows gone self.old
+            → AreWatched most rows gone self.new) }
     {
         if number < self.watched.len() {
-            self.watched[number].note(begin, op, note);
+            return self.watched[number].note(begin, op, is_write, note);
         }
+        Ok(())
     }
 
     /// A write on the key of that number is answered.

@@ -85,4 +85,5 @@ returns c = λ rows formed k.
           c.args.client _ _ (may.0 ∙ sym k.opens.begun) c.in_ok-begin.ensures.ok
           (begun_now rows c.begin-2.new.self.keys.numbers op c.args.client key c.args.action.now _ k.keys.at refl c.in_ok-begin-2.ensures.here))
           (omega (arith, k.few, calls, may.0, c.call_number-number.type_inv, c.call_number-number.ensures)),
+      c.end_row.ensures.give_up ∙ c.in_ok-begin-2.ensures.give_up,
     )

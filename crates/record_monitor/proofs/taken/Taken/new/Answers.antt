@@ -2,8 +2,8 @@ use Rattle.std.proofs.Common.{[], refl, arith}
 use Rattle.record_monitor.proofs.Finishing.{nothing_begun, nothing_recent, nothing_waits, nothing_watched}
 use Rattle.record_monitor.proofs.taken.Taken.new.Goals as goal
 
-pub returns : goal.returns
-returns c = record {
+pub returns-clause-rows : goal.returns-clause-rows
+returns-clause-rows c = record {
   gone = [];
   keys = record {
     knows = record {

@@ -1,4 +1,4 @@
-use Rattle.std.proofs.Common.{ℕ, ◌≡◌, ◌+◌, [], ◌∷◌, ◌++◌, length, ap, sym, ◌∙◌, arith}
+use Rattle.std.proofs.Common.{ℕ, ◌≡◌, ◌+◌, [], ◌∷◌, ◌++◌, length, ap, sym, ◌∙◌, refl, arith}
 use Rattle.std.proofs.lemmas.Result.{err_from_is_err_and}
 use Rattle.recorder.specs.declared.row.Row.TheVariants.{Note}
 use Rattle.recorder.specs.Histories.{call_count}
@@ -17,6 +17,11 @@ returns-in_err-note c = λ rows formed k.
     let r = c.in_err-note.ensures.row rows c.args.tag k.opens in
     rw (p.1, p.2) (r.0, λ other. ap (λ (x : Open Begun). record c.args.self.now { calls = x }) r.1)
 
+pub returns-in_err-keep_note : goal.returns-in_err-keep_note
+returns-in_err-keep_note c = λ rows formed k.
+    let p = err_from_is_err_and c.from_residual-in_err-keep_note.result c.from_residual-in_err-keep_note.ensures.1 in
+    rw (p.1, p.2) ((c.in_ok-note.ensures.row rows c.args.tag k.opens).0, λ other. absurd (other refl))
+
 pub end_row-requires-clause-some : goal.end_row-requires-clause-some
 end_row-requires-clause-some c =
     let old = c.args.self.now in
@@ -27,7 +32,7 @@ end_row-requires-clause-some c =
     let may = (c.in_ok-note.ensures.row rows c.args.tag k.opens).0 in
     let after = with_calls (length rows) (rows ++ row ∷ []) k.gone old c.note.new.self
     (noted_kept (length rows) rows k.gone old c.requires.formed op c.args.tag may k.keys) in
-    let told = c.keep_note.ensures.keys (rows ++ row ∷ []) k.gone (length rows) (note_at rows op c.args.tag old.place k.keys.at) after in
+    let told = c.in_ok-keep_note.ensures.keys (rows ++ row ∷ []) k.gone (length rows) (note_at rows op c.args.tag old.place k.keys.at) after in
     (rows ++ row ∷ [], k.gone, at_place (length rows) (rows ++ row ∷ []) k.gone c.keep_note.new.self told)
 
 pub end_row-requires-clause-small : goal.end_row-requires-clause-small
@@ -40,7 +45,7 @@ end_row-requires-clause-small c =
     let may = (c.in_ok-note.ensures.row rows c.args.tag k.opens).0 in
     let after = with_calls (length rows) (rows ++ row ∷ []) k.gone old c.note.new.self
     (noted_kept (length rows) rows k.gone old c.requires.formed op c.args.tag may k.keys) in
-    let told = c.keep_note.ensures.keys (rows ++ row ∷ []) k.gone (length rows) (note_at rows op c.args.tag old.place k.keys.at) after in
+    let told = c.in_ok-keep_note.ensures.keys (rows ++ row ∷ []) k.gone (length rows) (note_at rows op c.args.tag old.place k.keys.at) after in
     small_place rows (rows ++ row ∷ []) k.gone c.keep_note.new.self c.requires.formed k.few told
 
 pub returns : goal.returns
@@ -53,7 +58,7 @@ returns c = λ rows formed k.
     let may = taken.0 in
     let after = with_calls (length rows) (rows ++ row ∷ []) k.gone old c.note.new.self
     (noted_kept (length rows) rows k.gone old formed op tag may k.keys) in
-    let told = c.keep_note.ensures.keys (rows ++ row ∷ []) k.gone (length rows) (note_at rows op tag old.place k.keys.at) after in
+    let told = c.in_ok-keep_note.ensures.keys (rows ++ row ∷ []) k.gone (length rows) (note_at rows op tag old.place k.keys.at) after in
     let ended = c.end_row.ensures.keys (rows ++ row ∷ []) k.gone (formed_next rows row formed may)
     (one_longer rows row ∙ ap (λ (n : ℕ). n + 1) (sym told.at))
     (at_place (length rows) (rows ++ row ∷ []) k.gone c.keep_note.new.self told) in
@@ -66,4 +71,5 @@ returns c = λ rows formed k.
           (begun_noted rows row old.keys.numbers old.keys.numbers old.calls c.note.new.self
           (λ n key e. e) k.begun op noted.0 noted.1.is noted.2)
           (omega (arith, k.few, calls)),
+      c.end_row.ensures.give_up ∙ c.keep_note.ensures.give_up,
     )

@@ -69,4 +69,5 @@ returns c = λ rows formed k.
           (begun_less rows row old.keys.numbers old.keys.numbers old.calls c.answer.new.self
           (λ n key e. e) k.begun op c.in_ok-begun.ensures.ok)
           (omega (arith, k.few, calls)),
+      c.end_row.ensures.give_up ∙ c.in_ok-end.ensures.give_up,
     )

@@ -10,7 +10,7 @@ use Rattle.recorder.specs.declared.row.Row.TheVariants.{Invoke, Respond}
 use Rattle.recorder.specs.Histories.{MayFollow}
 use Rattle.monitored_key.specs.Held.{Held}
 use Rattle.record_monitor.specs.Ended.{HasEnded}
-use Rattle.record_monitor.specs.Followed.{AreTold, FollowsState, IsFollowed}
+use Rattle.record_monitor.specs.Followed.{AreTold, FollowsState, IsFollowed, KeepsState}
 use Rattle.record_monitor.specs.Told.{IsToldCall}
 use Rattle.record_monitor.specs.Waiting.{AreGivenUp}
 use Rattle.record_monitor.proofs.KeptStates.{as_ended, ended_after, next_kept, none_when, state_kept}
@@ -34,7 +34,8 @@ judge-requires-clause-began c = omega (arith, c.answered-read.ensures.same.at, c
 
 pub judge-requires-clause-next : goal.judge-requires-clause-next
 judge-requires-clause-next c =
-    next_kept c.args.self.now c.keep_read.new.self c.in_ok-keep_read.ensures.state c.args.place c.requires.next
+    let state = c.in_ok-keep_read.ensures.state in
+    next_kept c.args.self.now c.keep_read.new.self (record { state = state.state; doubt = state.doubt }) c.args.place c.requires.next
 
 pub returns : goal.returns
 returns c =
@@ -46,7 +47,8 @@ returns c =
     let place = c.args.place in
     let value = option_copied c.args.value in
     let same = c.answered-read.ensures.same in
-    let state = c.in_ok-keep_read.ensures.state in
+    let state : KeepsState old mid =
+    record { state = c.in_ok-keep_read.ensures.state.state; doubt = c.in_ok-keep_read.ensures.state.doubt } in
     IfOk-weaker c.judge.result _ _ (λ found h most rows key gone formed e at may up stays f.
     let row = Respond call.op (Value value) in
     let after = rows ++ row ∷ [] in
@@ -54,7 +56,8 @@ returns c =
     let own = told_on rows row key call (told_begun rows key call Read c.requires.bare at) in
     let told = are_told_on rows row key old f.1 in
     let read_told = c.answered-read.ensures.told after key told.calls own (Value value, answer) in
-    let mid_told = c.in_ok-keep_read.ensures.told after key told read_told same.end in
+    let mid_told = c.in_ok-keep_read.ensures.told after key
+    (record { calls = c.answered-read.ensures.knows after key told.calls; told = told.told }) read_told in
     let judged = as_ended call read place same (λ (op : OpId) (client begun : ℕ).
     slice_get rows begun ≡ Some (Invoke op client key Read) → MayFollow rows (Respond op (Value value)) → AreGivenUp most rows gone
     → (Contains gone op.0 → ⊥) → read.answered ≡ Some place → FollowsState rows key gone mid
