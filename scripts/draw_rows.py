@@ -80,9 +80,9 @@ def full_page():
         "sum: Keys refused: 0 of 3",
         f"rest: {NOT_DRAWN}: 1, refused ones among them: 0",
         "heading 2: a: yes",
-        "shown: Calls shown: 10000 of 10000, from call 0 to call 9999",
+        "shown: Calls shown: 0 to 9999 (10000 of 10000)",
         "heading 2: b: yes",
-        "shown: Calls shown: 10000 of 10000, from call 10000 to call 19999",
+        "shown: Calls shown: 10000 to 19999 (10000 of 10000)",
     ]
     return "a full page", "keys", ["draw", "h", "--calls", "10000"], '{"abd":"history","version":1}\n' + calls, wanted
 

@@ -9,7 +9,7 @@ all keys together (`--whole`), whose one order it makes of the keys' orders, and
 the trace. By values it compares the points of an atomic key with the order that `abd justify --by values` writes, which has to be one, and
 the red calls of any other with those that `abd decide` names. A text stays a text, no element is a script, each link has its place on the
 page, and a page has one title and leaves out no level of headings. Boxes that scroll have a role, a name and the focus, and tables a caption
-and headings of columns and of rows.
+and headings of columns and of rows. The first heading says how many keys are refused.
 """
 
 import json
@@ -110,14 +110,25 @@ def check_order(own, order):
         expect(own[op]["ends"] is None or latest < own[op]["ends"], "place of", op)
 
 
+def ranges_of(bars, own):
+    """The calls that have bars, in ranges within which none of all is left out."""
+    runs = []
+    for place, op in enumerate(sorted(own)):
+        if op in bars and runs and runs[-1][2] == place - 1:
+            runs[-1][1:] = [op, place]
+        elif op in bars:
+            runs.append([op, op, place])
+    return " and ".join(str(first) if first == last else f"{first} to {last}" for first, last, _ in runs) or "none"
+
+
 def check_calls(section, own, most, of):
     """The picture of a section shows these calls, or as many as it may. The picture, and its bars by call."""
     picture = elements(section, "div", "picture")[0]
     said = elements(section, "p", "shown")[0].text
-    shown, total = [int(it) for it in re.match(r"Calls shown: (\d+) of (\d+)", said).groups()]
+    ranges, shown, total = re.match(r"Calls shown: (.*?) \((\d+) of (\d+)\)", said).groups()
+    shown, total = int(shown), int(total)
     bars = {named(it)[0]: it for it in picture.iter("g")}
-    ends = re.search(r", from call (\d+) to call (\d+)", said)
-    expect([int(it) for it in ends.groups()] == [min(bars), max(bars)] if bars else not ends, "first and last call of", of)
+    expect(ranges == ranges_of(bars, own), "ranges of calls of", of, ranges)
     expect(total == len(own) and shown == len(bars) and shown == len(elements(picture, "g")), "calls of", of)
     expect(set(bars) <= set(own) and (shown == most or set(bars) == set(own)), "calls shown of", of)
     client_at = {int(it.text.split(" ")[-1]): number(it, "x") for it in elements(picture, "text", "client")}
@@ -156,6 +167,17 @@ def check_links(section, bars):
     for line in elements(section, "p", "why"):
         for link in line.iter("a"):
             expect(places.get(link.get("href")[1:]) == int(link.text), "link of", link.text, link.get("href"))
+
+
+def check_table(root):
+    """In the table at the top a refused key's line leads to the first bar that shows why, if there is one, and each other to its section."""
+    for row in next(root.iter("tbody")):
+        for link in row.iter("a"):
+            kind, number, *call = re.fullmatch(r"#(call|key)-(\d+)(?:-(\d+))?", link.get("href")).groups()
+            section = next(it for it in root.iter("section") if it.get("id") == f"key-{number}")
+            named_calls = [it.get("href") for line in elements(section, "p", "why") for it in line.iter("a")]
+            expect(next(section.iter("h2")).text.startswith(link.text), "key of", link.text)
+            expect((kind == "call") == bool(named_calls) and (kind == "key" or link.get("href") in named_calls), "link of", link.text, link.get("href"))
 
 
 def check_key(section, calls, orders):
@@ -228,6 +250,13 @@ def check_tables(root):
             expect(row[0].tag == "th" and scopes == ["row"], "heading of a row", [it.tag for it in row])
 
 
+def check_title(root, history):
+    """The title and the first heading are the file's name, and how many of its keys are refused, if one is."""
+    refused, count = re.match(r"Keys refused: (\d+) of (\d+)", elements(root, "p", "sum")[0].text).groups()
+    words = history + (f": {refused} of {count} keys refused" if int(refused) else "")
+    expect(next(root.iter("title")).text == words == next(root.iter("h1")).text, "title", next(root.iter("h1")).text, "and not", words)
+
+
 def read_page(text):
     """The page's elements; none of them can run or fetch something."""
     first, _, rest = text.partition("\n")
@@ -249,10 +278,12 @@ def read_page(text):
 
 def check_page(text, history, orders):
     root = read_page(text)
+    check_table(root)
     calls = calls_of(history)
     keys = {call["key"] for call in calls.values()}
     drawn = {check_key(it, calls, orders) for it in root.iter("section")}
     expect(len(drawn) == min(len(keys), 20) and drawn <= keys, "keys", drawn)
+    return root
 
 
 def red_calls(section):
@@ -268,7 +299,7 @@ def check_values(abd, history):
     expect({key for key, it in decided.items() if it["verdict"] == "atomic"} == set(orders), "keys with orders", orders)
     drawn_status, page = run(abd, "draw", "--by", "values", history)
     expect(drawn_status == status, "status", drawn_status)
-    check_page(page, history, orders)
+    check_title(check_page(page, history, orders), history)
     for section in read_page(page).iter("section"):
         key = next(section.iter("h2")).text.partition(": ")[0]
         is_refused = decided[key]["verdict"] == "not atomic"
@@ -328,7 +359,7 @@ def check_history(abd, place, history):
         file.write(run(abd, "justify", history)[1])
     orders = orders_of(order_file)
     for words in ([], [order_file]):
-        check_page(run(abd, "draw", history, *words)[1], history, orders)
+        check_title(check_page(run(abd, "draw", history, *words)[1], history, orders), history)
         check_whole(run(abd, "draw", "--whole", "--calls", "10000", history, *words)[1], history, orders)
     return orders
 

@@ -1,9 +1,7 @@
 -- No call of a key begins where another one ends.
-use Rattle.std.proofs.Common.{ℕ, suc, ◌≡◌, ◌<◌, not, List, [], ◌∷◌, All, filter, get_or, length, map, refl, ap, sym, subst, ◌∙◌, arith}
-use Rattle.std.proofs.Math.ListN.{get_or-map}
-use Rattle.std.proofs.lemmas.List.{length-map}
+use Rattle.std.proofs.Common.{ℕ, suc, ◌≡◌, not, List, [], ◌∷◌, All, filter, map, refl, arith}
 use Rattle.std.specs.List.{Contains}
-use Rattle.std.proofs.lemmas.List.Elements.{All-append, All-cons, All-contains_itself, All-filter, All-get_or, All-head, All-map, All-nil, All-same, All-tail, All-weaker}
+use Rattle.std.proofs.lemmas.List.Elements.{All-append, All-cons, All-contains_itself, All-filter, All-head, All-map, All-nil, All-same, All-tail, All-weaker}
 use Rattle.recorder.specs.declared.order.KeyOrder.{KeyOrder}
 use Rattle.recorder.specs.declared.part.Call.{Call}
 use Rattle.recorder.specs.Histories.{Recorded}
@@ -67,9 +65,3 @@ drawable judged keys all ordered are apart_all in_order =
     All-same D (map judgement_of ordered) (refused_first all) in_order
     (All-append D (filter (λ (j : Judgement). is_refused j.finding) all) (filter (λ (j : Judgement). not (is_refused j.finding)) all)
     (All-filter (λ (j : Judgement). is_refused j.finding) D all each) (All-filter (λ (j : Judgement). not (is_refused j.finding)) D all each))
-
--- what holds of each judged key holds of the one that was read
-pub read_one : (P : Judgement → Type 0) (keys : List JudgedKey) (n : ℕ) (key : JudgedKey) → All P (map judgement_of keys) → n < length keys → key ≡ get_or keys n key → P (judgement_of key)
-read_one P keys n key all within is =
-    let same : get_or (map judgement_of keys) n (judgement_of key) ≡ judgement_of key = get_or-map judgement_of keys n key ∙ ap judgement_of (sym is) in
-    subst P same (All-get_or P (map judgement_of keys) n (judgement_of key) (subst (λ (k : ℕ). n < k) (sym (length-map keys judgement_of)) within) all)

@@ -5,3 +5,6 @@ mod SceneOrder
 mod FoundOrders
 mod Fitting
 mod Looking
+mod RangeSteps
+mod Searched
+mod Explained

@@ -1,6 +1,8 @@
 pub mod Counts
 pub mod Drawings
 pub mod Pictured
+pub mod PicturedKeys
+pub mod Ranges
 pub mod Frames
 pub mod Pages
 pub mod HistoryPictures

@@ -1,11 +1,11 @@
 -- The page: a table of the keys, and for each of the first of them a section with its picture.
 use Rattle.std.specs.Prelude.{ℕ, zero, suc, ◌≡◌, ◌+◌, ◌-◌, ◌==◌, ◌&&◌, not, Bool, true, false}
 use Rattle.std.specs.Prelude.{List, [], ◌∷◌, ◌++◌, Option, Some, None}
-use Rattle.std.specs.Prelude.{cond, decimal, length, nat_lt, slice_get, take}
+use Rattle.std.specs.Prelude.{cond, decimal, filter, length, map, nat_lt, slice_get, take}
 use Rattle.std.specs.List.{list_any}
 use Rattle.std.specs.Str.Lines.{lines}
 use Rattle.std.specs.Str.Lossy.{utf8_lossy}
-use Rattle.markup.specs.Markup.{Markup, nothing, text, element, both, each}
+use Rattle.markup.specs.Markup.{Markup, NamedText, nothing, text, element, both, each}
 use Rattle.markup.specs.Texts.{of_class, plain, worded}
 use Rattle.markup.specs.declared.names.AttributeName.TheVariants as name
 use Rattle.markup.specs.declared.names.Element.TheVariants as tag
@@ -13,9 +13,10 @@ use Rattle.history_file.specs.declared.numbered_format.NumberedHistories.{Number
 use Rattle.tag.specs.declared.numbers.OpId.{OpId}
 use Rattle.recorder.specs.Halls.{hall_of}
 use Rattle.recorder.specs.declared.part.Call.{Call}
-use Rattle.call_links.specs.Ids.{bar_ids, bar_targets}
+use Rattle.call_links.specs.Ids.{bar_ids, bar_target, bar_targets}
 use Rattle.call_links.specs.Linked.{linked}
-use Rattle.scenes.specs.declared.scene.Bar.{Bar}
+use Rattle.sentences.specs.Words.{quoted_text}
+use Rattle.parallel_keys.specs.CheckedKeys.{CheckedKey}
 use Rattle.cli.specs.Hints.{has_note}
 use Rattle.pictures.specs.Pictures.{picture_markup}
 use Rattle.pictures.specs.Sheets.{legend, style}
@@ -30,8 +31,9 @@ use Rattle.judged_keys.specs.declared.finding.Finding.{Finding}
 use Rattle.explain_command.specs.Lines.{finding_line, missing_text}
 use Rattle.draw_command.specs.Counts.{AreCountsOf}
 use Rattle.draw_command.specs.Drawings.{IsKeyScene, IsWhy}
-use Rattle.draw_command.specs.Frames.{page_frame}
+use Rattle.draw_command.specs.Frames.{titled_frame}
 use Rattle.draw_command.specs.Pictured.{ArePictured}
+use Rattle.draw_command.specs.Ranges.{ranges_markup, ranges_of}
 use Rattle.draw_command.specs.declared.counts.KeyCounts.{KeyCounts}
 use Rattle.draw_command.specs.declared.drawn.Drawn.{Drawn}
 use Rattle.draw_command.specs.declared.words.TheConstants as word
@@ -62,19 +64,27 @@ verdict_class finding = cond (is_refused finding) word.NO.now
 
 -- ---- the table
 
--- what was found of the key that has that number in the table; it leads to its picture, if it has
--- one
-abbrev pub finding_link : ℕ → ℕ → Judgement → Markup
-finding_link drawn n key = cond (nat_lt n drawn)
-    (element tag.A (record { name = name.Href; value = word.TO_KEY.now ++ decimal n } ∷ [])
-    (finding_said key))
-    (finding_said key)
+-- where the line of the key leads that has that number in the table: to the bar of the first of the
+-- calls that show why it is refused, or, if there are none, to its section
+abbrev pub fault_target : ℕ → List OpId → List ℕ
+fault_target n [] = word.TO_KEY.now ++ decimal n
+fault_target n (call ∷ calls) = bar_target n call.0
+
+-- a link that leads there
+abbrev pub fault_href : ℕ → List OpId → List NamedText
+fault_href n faulty = record { name = name.Href; value = fault_target n faulty } ∷ []
+
+-- what was found of the key that has that number in the table; if it has a picture, in which these
+-- calls show why it is refused, it leads there
+abbrev pub finding_link : ℕ → Option (List OpId) → Judgement → Markup
+finding_link n None key = finding_said key
+finding_link n (Some faulty) key = element tag.A (fault_href n faulty) (finding_said key)
 
 -- the first cell of a key's row
-abbrev pub finding_cell : ℕ → ℕ → Judgement → Markup
-finding_cell drawn n key =
+abbrev pub finding_cell : ℕ → Option (List OpId) → Judgement → Markup
+finding_cell n faulty key =
     element tag.Th (record { name = name.Scope; value = word.ROW_SCOPE.now } ∷ [])
-    (finding_link drawn n key)
+    (finding_link n faulty key)
 
 -- a cell with a number
 abbrev pub count_cell : ℕ → Markup
@@ -86,9 +96,9 @@ count_cells counts = both (count_cell counts.calls) (both (count_cell counts.cli
     (both (count_cell counts.pending) (count_cell counts.at_once)))
 
 -- the row of the key that has that number in the table
-abbrev pub row_markup : ℕ → ℕ → Judgement → KeyCounts → Markup
-row_markup drawn n key counts = element tag.Tr (of_class (verdict_class key.finding))
-    (both (finding_cell drawn n key) (count_cells counts))
+abbrev pub row_markup : ℕ → Option (List OpId) → Judgement → KeyCounts → Markup
+row_markup n faulty key counts = element tag.Tr (of_class (verdict_class key.finding))
+    (both (finding_cell n faulty key) (count_cells counts))
 
 -- the head of a column
 abbrev pub column_head : List ℕ → Markup
@@ -149,28 +159,20 @@ why_lines targets calls words = each (why_line targets calls) (lines words)
 abbrev pub why_markup : List ℕ → List OpId → List ℕ → Markup
 why_markup targets calls words = why_lines targets calls (utf8_lossy words)
 
--- the numbers of the calls of a first and a last bar, if there are some
-abbrev pub span_of : Option Bar → Option Bar → Markup
-span_of None last = nothing
-span_of (Some first) None = nothing
-span_of (Some first) (Some last) =
-    both (text word.FROM_CALL.now) (both (text (decimal first.call.0))
-    (both (text word.TO_CALL.now) (text (decimal last.call.0))))
-
--- those of the first and the last of these bars
-abbrev pub span_markup : List Bar → Markup
-span_markup bars = span_of (slice_get bars 0) (slice_get bars (length bars - 1))
-
 -- how to see others, if not all calls are shown
 abbrev pub others_markup : ℕ → ℕ → Markup
 others_markup shown all = cond (nat_lt shown all) (text word.OTHERS.now) nothing
 
--- how many of the calls its picture shows, and which
+-- so many of so many, and how to see others
+abbrev pub share_markup : ℕ → ℕ → Markup
+share_markup shown all = both (numbers word.SHARE.now shown word.OF.now all)
+    (both (text word.SHARE_END.now) (others_markup shown all))
+
+-- which of the calls its picture shows, and how many
 abbrev pub shown_line : Picture → Markup
-shown_line picture = element tag.P (of_class word.SHOWN.now) (both
-    (numbers word.CALLS_SHOWN.now (length picture.scene.now.bars.items) word.OF.now
-    (length picture.part.now)) (both (span_markup picture.scene.now.bars.items)
-    (others_markup (length picture.scene.now.bars.items) (length picture.part.now))))
+shown_line picture = element tag.P (of_class word.SHOWN.now) (both (text word.CALLS_SHOWN.now)
+    (both (ranges_markup (ranges_of picture.scene.now.gaps.items picture.scene.now.bars.items))
+    (share_markup (length picture.scene.now.bars.items) (length picture.part.now))))
 
 -- one of the calls has the number
 abbrev pub has_call : List Call → ℕ → Bool
@@ -182,6 +184,39 @@ around_line None part = nothing
 around_line (Some number) part = cond (has_call part number) nothing
     (element tag.P (of_class word.HINT.now) (both (text word.AROUND.now)
     (both (text (decimal number)) (text word.NOT_THERE.now))))
+
+-- the names of those of the keys that have the call of that number
+abbrev pub keys_with : ℕ → List CheckedKey → List (List ℕ)
+keys_with number keys = map (λ one. one.key) (filter (λ one. has_call one.part number) keys)
+
+-- the same of the call around which calls are to be shown, if one is given
+abbrev pub keys_around : Option ℕ → List CheckedKey → List (List ℕ)
+keys_around None keys = []
+keys_around (Some number) keys = keys_with number keys
+
+-- that the call of that number is on that key, which isn't drawn
+abbrev pub elsewhere_line : ℕ → List ℕ → Markup
+elsewhere_line number key = element tag.P (of_class word.HINT.now) (both (text word.AROUND.now)
+    (both (text (decimal number)) (both (text word.ON_KEY.now)
+    (both (said (quoted_text key)) (text word.UNDRAWN_KEY.now)))))
+
+-- that there is no call of that number, if so many keys have one and that is none
+abbrev pub nowhere_line : ℕ → ℕ → Markup
+nowhere_line number zero = element tag.P (of_class word.HINT.now)
+    (both (text word.NOWHERE.now) (both (text (decimal number)) (text word.STOP.now)))
+nowhere_line number (suc count) = nothing
+
+-- that the call of that number is on each of these keys, or that there is none
+abbrev pub elsewhere_markup : ℕ → List (List ℕ) → Markup
+elsewhere_markup number keys =
+    both (each (elsewhere_line number) keys) (nowhere_line number (length keys))
+
+-- where the call is around which calls are to be shown, if one is given that none of the drawn keys
+-- has; these keys have it
+abbrev pub search_markup : Option ℕ → List Judgement → List (List ℕ) → Markup
+search_markup None drawn keys = nothing
+search_markup (Some number) drawn keys = cond (list_any (λ key. has_call key.one.part number) drawn)
+    nothing (elsewhere_markup number keys)
 
 -- what a section shows: which calls, the picture, and the calls as a table
 abbrev pub showing_markup : Option ℕ → Picture → Markup
@@ -260,9 +295,23 @@ abbrev pub title_words : List ℕ → List ℕ → List ℕ
 title_words [] command = command
 title_words (byte ∷ file) command = byte ∷ file
 
--- the page of that file around what it says and shows of keys
-abbrev pub page_markup : List ℕ → Markup → Markup
-page_markup file content = page_frame (title_words file word.TITLE.now) styles_markup content
+-- how many keys are refused of so many, if one is
+abbrev pub refused_words : ℕ → ℕ → Markup
+refused_words zero count = nothing
+refused_words (suc refused) count = both (text word.COLON.now)
+    (both (text (decimal (suc refused))) (both (text word.OF_KEYS.now)
+    (both (text (decimal count)) (text word.ARE_REFUSED.now))))
+
+-- what the title of the page of that file says: its name, and how many keys are refused
+abbrev pub heading_words : List ℕ → ℕ → ℕ → Markup
+heading_words file refused count =
+    both (text (title_words file word.TITLE.now)) (refused_words refused count)
+
+-- the page of that file, of whose keys so many are refused of so many, around what it says and
+-- shows of them
+abbrev pub page_markup : List ℕ → ℕ → ℕ → Markup → Markup
+page_markup file refused count content =
+    titled_frame (heading_words file refused count) styles_markup content
 
 -- what the frame makes of something of which that holds
 abbrev pub IsFramed : (Markup → Markup) → (Markup → Type 0) → Markup → Type 0
@@ -274,15 +323,20 @@ IsEach Is n [] markup = markup ≡ nothing
 IsEach Is n (x ∷ xs) markup = (first : Markup) × (others : Markup) × Is n x first
     × IsEach Is (n + 1) xs others × (markup ≡ both first others)
 
--- the row of a key, with the counts of its calls
-abbrev pub IsRowOf : ℕ → ℕ → Judgement → Markup → Type 0
-IsRowOf drawn n key row = (counts : KeyCounts) × AreCountsOf key.one.part counts
-    × (row ≡ row_markup drawn n key counts)
+-- the row of a key, with the counts of its calls; if it has a picture, these calls show in it why
+-- the key is refused
+abbrev pub IsRow : ℕ → Option (List OpId) → Judgement → Markup → Type 0
+IsRow n faulty key row = (counts : KeyCounts) × AreCountsOf key.one.part counts
+    × (row ≡ row_markup n faulty key counts)
+
+-- the same, where the list has such calls of each key that has a picture
+abbrev pub IsRowOf : List (List OpId) → ℕ → Judgement → Markup → Type 0
+IsRowOf faulty n key row = IsRow n (slice_get faulty n) key row
 
 -- the table of the first of the keys
-abbrev pub IsTableOf : ℕ → List Judgement → Markup → Type 0
-IsTableOf drawn keys table =
-    IsFramed table_markup (IsEach (IsRowOf drawn) 0 (take table_size keys)) table
+abbrev pub IsTableOf : List (List OpId) → List Judgement → Markup → Type 0
+IsTableOf faulty keys table =
+    IsFramed table_markup (IsEach (IsRowOf faulty) 0 (take table_size keys)) table
 
 -- the calls are on that key
 abbrev pub IsOne : CallKeys → List ℕ → Type 0
@@ -301,24 +355,30 @@ module _ (numbered : NumberedHistories) (drawn : Drawn) where
       pub scene : IsKeyScene drawn picture.hall key picture.faulty.now picture.scene.now
       pub ids : picture.ids.now ≡ bar_ids n
 
-  -- the section of the key that has that number in the table, on a page with refused keys or
-  -- without: its hall is named if there are several, and the calls that its sentences name lead to
-  -- their bars in its picture
-  abbrev pub IsSectionOf : Bool → ℕ → Judgement → Markup → Type 0
-  IsSectionOf refused n key section = (words : List ℕ) × (picture : Picture)
-      × IsPictureOf n key words picture × (section ≡ section_markup n refused
-      (hall_among (length numbered.histories.halls) key.one.key) key
-      (content_markup (bar_targets n) picture.faulty.now words drawn.around picture))
+  -- the section of the key that has that number in the table, in whose picture these calls show why
+  -- it is refused, on a page with refused keys or without: its hall is named if there are several,
+  -- and the calls that its sentences name lead to their bars
+  abbrev pub IsSectionOf : Bool → ℕ → Judgement × List OpId → Markup → Type 0
+  IsSectionOf refused n own section = (words : List ℕ) × (picture : Picture)
+      × IsPictureOf n own.0 words picture × (picture.faulty.now ≡ own.1)
+      × (section ≡ section_markup n refused
+      (hall_among (length numbered.histories.halls) own.0.one.key) own.0
+      (content_markup (bar_targets n) own.1 words drawn.around picture))
 
   -- what a page says and shows of these keys: how many there are, and of them how many are refused;
-  -- a table of the first; and for as many as a page has room for a section
-  pub record IsContentOf (keys : List Judgement) (refused : ℕ) (missing : List (List ℕ))
+  -- a table of the first, which leads to faulty calls; and for as many as a page has room for a
+  -- section, in which these calls show why the key is refused. Names that no key has are given, and
+  -- the keys that have the call around which calls are to be shown
+  pub record IsContentOf (keys : List Judgement) (refused : ℕ) (missing having : List (List ℕ))
       (content : Markup) : Type 0 where
     pub pictured : ℕ
     pub fitting : ArePictured drawn keys pictured
+    pub first : List (Judgement × List OpId)
+    pub first_are : map (λ own. own.0) first ≡ take pictured keys
     pub table : Markup
-    pub tabled : IsTableOf pictured keys table
+    pub tabled : IsTableOf (map (λ own. own.1) first) keys table
     pub sections : Markup
-    pub drawn_are : IsEach (IsSectionOf (nat_lt 0 refused)) 0 (take pictured keys) sections
-    pub is : content ≡ both (front_markup (length keys) refused missing) (both table
+    pub drawn_are : IsEach (IsSectionOf (nat_lt 0 refused)) 0 first sections
+    pub is : content ≡ both (both (front_markup (length keys) refused missing)
+        (search_markup drawn.around (take pictured keys) having)) (both table
         (both (below_table pictured (length keys) refused (have_notes keys)) sections))

@@ -2,7 +2,7 @@
 ghost use Rattle.std.specs.Prelude.{◌≡◌, ◌++◌, OnOk};
 ghost use Rattle.markup.specs.Markup.{rendered};
 ghost use Rattle.draw_command.specs.Frames.{above_content, above_styles, below_content};
-ghost use Rattle.draw_command.specs.Frames.{metas_markup};
+ghost use Rattle.draw_command.specs.Frames.{content_begin, metas_markup, page_begin};
 ghost use Rattle.draw_command.specs.Pages.{styles_markup, title_words};
 
 use crate::words;
@@ -40,6 +40,17 @@ fn append_metas(page: &mut Vec<u8>) -> Result<(), Memory>
     )
 }
 
+/// Adds what a browser is told before all else.
+pub(crate) fn begin_head(page: &mut Vec<u8>) -> Result<(), Memory>
+    ensures { OnOk result (page.new.items ≡ page.old.items ++ page_begin) }
+{
+    append_doctype(page)?;
+    let language = Attribute::Words(AttributeName::Lang, words::LANGUAGE);
+    append_opening(page, Element::Html, &[language])?;
+    append_opening(page, Element::Head, &[])?;
+    append_metas(page)
+}
+
 /// Begins a page of that title, down to its styles. They are to be added next, then what
 /// `begin_content` adds, then the page's content, and then what `end_page` adds.
 ///
@@ -47,11 +58,7 @@ fn append_metas(page: &mut Vec<u8>) -> Result<(), Memory>
 pub fn begin_page(page: &mut Vec<u8>, title: &str) -> Result<(), Memory>
     ensures { OnOk result (page.new.items ≡ page.old.items ++ above_styles title.now) }
 {
-    append_doctype(page)?;
-    let language = Attribute::Words(AttributeName::Lang, words::LANGUAGE);
-    append_opening(page, Element::Html, &[language])?;
-    append_opening(page, Element::Head, &[])?;
-    append_metas(page)?;
+    begin_head(page)?;
     append_plain(page, Element::Title, title)
 }
 
@@ -64,13 +71,20 @@ pub fn append_styles(page: &mut Vec<u8>) -> Result<(), Memory>
     append_plain(page, Element::Style, words::STYLE)
 }
 
+/// Goes on from a page's styles to its title.
+pub(crate) fn begin_body(page: &mut Vec<u8>) -> Result<(), Memory>
+    ensures { OnOk result (page.new.items ≡ page.old.items ++ content_begin) }
+{
+    append_closing(page, Element::Head)?;
+    append_opening(page, Element::Body, &[])?;
+    append_opening(page, Element::Main, &[])
+}
+
 /// Goes on from a page's styles to its content, above which the title stands.
 pub fn begin_content(page: &mut Vec<u8>, title: &str) -> Result<(), Memory>
     ensures { OnOk result (page.new.items ≡ page.old.items ++ above_content title.now) }
 {
-    append_closing(page, Element::Head)?;
-    append_opening(page, Element::Body, &[])?;
-    append_opening(page, Element::Main, &[])?;
+    begin_body(page)?;
     append_plain(page, Element::H1, title)
 }
 

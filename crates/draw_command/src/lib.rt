@@ -5,6 +5,7 @@
 //! each key, on the caller's thread, and of the pictures, which grow with the calls that they show.
 #![tactic(auto)]
 
+mod around;
 mod counts;
 mod draw;
 mod drawn;
@@ -14,10 +15,13 @@ mod history_pictures;
 mod key_scene;
 mod page;
 mod pictured;
+mod pictured_keys;
+mod ranges;
 mod section;
 mod showing;
 mod table;
 mod texts;
+mod titled;
 mod why;
 mod words;
 

@@ -2,24 +2,24 @@
 ghost use Rattle.std.specs.Prelude.{◌≡◌, ◌++◌, All, false, length, map, OnOk, true};
 ghost use Rattle.markup.specs.Markup.{rendered};
 ghost use Rattle.pictures.specs.Layout.{IsInOrder};
-ghost use Rattle.judged_keys.specs.Halls.{HasLinesOfEach};
 ghost use Rattle.judged_keys.specs.Judgements.{judgement_of};
 ghost use Rattle.draw_command.specs.Drawings.{IsDrawable};
 ghost use Rattle.draw_command.specs.Making.{Adds};
 ghost use Rattle.draw_command.specs.Pages.{IsEach, IsSectionOf, content_markup, hall_among};
 ghost use Rattle.draw_command.specs.Pages.{hall_markup, heading_markup, is_folded, said_markup};
 ghost use Rattle.draw_command.specs.Pages.{section_markup, why_line, why_lines, why_markup};
+ghost use Rattle.draw_command.specs.PicturedKeys.{IsExplained, judged_in, with_faulty};
 
 use crate::drawn::Drawn;
 use crate::key_scene::scene_of_key;
+use crate::pictured_keys::PicturedKey;
 use crate::showing::append_showing;
 use crate::table::verdict_class;
 use crate::texts::append_finding;
-use crate::why::why_of;
 use crate::words;
 use call_links::{Links, append_linked, bar_ids, bar_targets};
 use history_file::NumberedHistories;
-use judged_keys::{Finding, JudgedKey, hall_of};
+use judged_keys::{Finding, JudgedKey};
 use markup::{
     Attribute, AttributeName, Element, append_closing, append_number, append_opening, append_text,
     open_of_class,
@@ -247,18 +247,17 @@ fn add_section(
     task: &Task<'_>,
     refused: bool,
     n: usize,
-    key: &JudgedKey<'_>,
+    own: &PicturedKey<'_>,
 ) -> Result<(), Memory>
-    requires lines { HasLinesOfEach task.now.numbered.now }
-    requires drawable { IsDrawable (judgement_of key.now) }
+    requires explained { IsExplained task.now.numbered.now own.now }
+    requires drawable { IsDrawable (judged_in own.now) }
     ensures { OnOk result (Adds (IsSectionOf task.now.numbered.now task.now.drawn refused n
-        (judgement_of key.now)) page.old.items page.new.items) }
+        (with_faulty own.now)) page.old.items page.new.items) }
 {
     let ids = bar_ids(alloc, n)?;
     let targets = bar_targets(alloc, n)?;
-    let hall = hall_of(task.numbered, key.one.key);
-    let why = why_of(alloc, &hall, key)?;
-    let faulty = why.faulty.as_slice();
+    let (key, hall) = (own.key, own.hall);
+    let faulty = own.why.faulty.as_slice();
     let scene = scene_of_key(alloc, &task.drawn, &hall, key, faulty)?;
     let picture = Picture {
         keys: CallKeys::One(key.one.key),
@@ -272,7 +271,7 @@ fn add_section(
         n,
         refused,
         hall: hall_among(task.numbered, key.one.key),
-        why: why.text.as_slice(),
+        why: own.why.text.as_slice(),
         links: Links {
             targets: targets.as_str(),
             calls: faulty,
@@ -288,15 +287,15 @@ pub(crate) fn add_sections(
     page: &mut Vec<u8>,
     task: &Task<'_>,
     refused: bool,
-    keys: &[JudgedKey<'_>],
+    keys: &[PicturedKey<'_>],
 ) -> Result<(), Memory>
-    requires lines { HasLinesOfEach task.now.numbered.now }
-    requires drawable { All IsDrawable (map judgement_of keys.now) }
+    requires explained { All (IsExplained task.now.numbered.now) keys.now }
+    requires drawable { All IsDrawable (map judged_in keys.now) }
     ensures { OnOk result (Adds (IsEach (IsSectionOf task.now.numbered.now task.now.drawn refused) 0
-        (map judgement_of keys.now)) page.old.items page.new.items) }
+        (map with_faulty keys.now)) page.old.items page.new.items) }
 {
-    for (n, key) in keys.iter().enumerate() {
-        add_section(alloc, page, task, refused, n, key)?;
+    for (n, own) in keys.iter().enumerate() {
+        add_section(alloc, page, task, refused, n, own)?;
     }
     Ok(())
 }

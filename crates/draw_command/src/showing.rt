@@ -2,33 +2,16 @@
 ghost use Rattle.std.specs.Prelude.{◌≡◌, ◌==◌, ◌++◌, OnOk};
 ghost use Rattle.markup.specs.Markup.{rendered};
 ghost use Rattle.pictures.specs.Layout.{IsInOrder};
-ghost use Rattle.draw_command.specs.Pages.{around_line, has_call, others_markup, showing_markup};
-ghost use Rattle.draw_command.specs.Pages.{shown_line, span_of};
+ghost use Rattle.draw_command.specs.Pages.{around_line, has_call, others_markup, share_markup};
+ghost use Rattle.draw_command.specs.Pages.{showing_markup, shown_line};
 
+use crate::ranges::append_ranges;
 use crate::words;
 use markup::{Element, append_closing, append_number, append_text, open_of_class};
 use pictures::{Picture, append_call_table, append_picture};
 use recorder::Part;
-use scenes::Bar;
 use std::alloc::Global;
 use tag::{Memory, OpId};
-
-/// Adds the numbers of the first and the last of the calls, if there are some.
-#[tactic(auto, unfolding(markup::specs::Markup::rendered))]
-fn append_span(page: &mut Vec<u8>, first: Option<Bar>, last: Option<Bar>) -> Result<(), Memory>
-    ensures { OnOk result (page.new.items ≡ page.old.items ++ rendered (span_of first last)) }
-{
-    let Some(first) = first else {
-        return Ok(());
-    };
-    let Some(last) = last else {
-        return Ok(());
-    };
-    append_text(page, words::FROM_CALL)?;
-    append_number(page, u64::from(first.call.0))?;
-    append_text(page, words::TO_CALL)?;
-    append_number(page, u64::from(last.call.0))
-}
 
 /// Says how to see others, if not all calls are shown.
 #[tactic(auto, unfolding(markup::specs::Markup::rendered))]
@@ -43,21 +26,30 @@ fn append_others(page: &mut Vec<u8>, shown: usize, all: usize) -> Result<(), Mem
     }
 }
 
-/// Says how many of the calls the picture shows, and which.
+/// Says how many of the calls are shown, and how to see others.
+#[tactic(auto, unfolding(markup::specs::Markup::rendered))]
+fn append_share(page: &mut Vec<u8>, shown: usize, all: usize) -> Result<(), Memory>
+    ensures { OnOk result (page.new.items ≡ page.old.items ++ rendered (share_markup shown all)) }
+{
+    append_text(page, words::SHARE)?;
+    append_number(page, shown as u64)?;
+    append_text(page, words::OF)?;
+    append_number(page, all as u64)?;
+    append_text(page, words::SHARE_END)?;
+    append_others(page, shown, all)
+}
+
+/// Says which of the calls the picture shows, and how many.
 #[tactic(auto, unfolding(markup::specs::Markup::rendered))]
 fn append_shown(page: &mut Vec<u8>, picture: &Picture<'_>) -> Result<(), Memory>
     ensures { OnOk result (page.new.items
         ≡ page.old.items ++ rendered (shown_line picture.now)) }
 {
-    let (shown, all) = (picture.scene.bars.len(), picture.part.len());
+    let scene = picture.scene;
     open_of_class(page, Element::P, words::SHOWN)?;
     append_text(page, words::CALLS_SHOWN)?;
-    append_number(page, shown as u64)?;
-    append_text(page, words::OF)?;
-    append_number(page, all as u64)?;
-    let bars = picture.scene.bars.as_slice();
-    append_span(page, bars.first().copied(), bars.last().copied())?;
-    append_others(page, shown, all)?;
+    append_ranges(page, scene.bars.as_slice(), scene.gaps.as_slice())?;
+    append_share(page, scene.bars.len(), picture.part.len())?;
     append_closing(page, Element::P)
 }
 
@@ -69,7 +61,7 @@ fn has_number(call: OpId, number: u64) -> bool
 }
 
 /// Whether the part has the call of that number.
-fn has_call(part: &Part<'_>, number: u64) -> bool
+pub(crate) fn has_call(part: &Part<'_>, number: u64) -> bool
     ensures { result ≡ has_call part.now number }
 {
     for place in 0..part.len() {

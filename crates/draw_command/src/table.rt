@@ -1,16 +1,20 @@
 //! The table of the keys.
+ghost use Rattle.std.specs.Option.{option_map};
 ghost use Rattle.std.specs.Prelude.{◌≡◌, ◌++◌, map, OnOk};
-ghost use Rattle.markup.specs.Markup.{rendered};
+ghost use Rattle.markup.specs.Markup.{opening_tag, rendered};
 ghost use Rattle.judged_keys.specs.Judgements.{judgement_of};
 ghost use Rattle.draw_command.specs.Making.{Adds};
-ghost use Rattle.draw_command.specs.Pages.{IsRowOf, IsTableOf, column_head, columns_markup};
-ghost use Rattle.draw_command.specs.Pages.{count_cell, count_cells, finding_cell, finding_link};
-ghost use Rattle.draw_command.specs.Pages.{below_table, left_out, rest_line, row_markup};
-ghost use Rattle.draw_command.specs.Pages.{table_front, verdict_class};
+ghost use Rattle.draw_command.specs.Pages.{IsRow, IsRowOf, IsTableOf, below_table, column_head};
+ghost use Rattle.draw_command.specs.Pages.{columns_markup, count_cell, count_cells, fault_href};
+ghost use Rattle.draw_command.specs.Pages.{finding_cell, finding_link, left_out, rest_line};
+ghost use Rattle.draw_command.specs.Pages.{row_markup, table_front, verdict_class};
+ghost use Rattle.draw_command.specs.PicturedKeys.{faulty_in};
 
 use crate::counts::{KeyCounts, counts_of};
+use crate::pictured_keys::{PicturedKey, faulty_at};
 use crate::texts::{append_counted, append_finding};
 use crate::words;
+use call_links::bar_targets;
 use itoa::Buffer;
 use judged_keys::{Finding, JudgedKey};
 use markup::{
@@ -19,7 +23,7 @@ use markup::{
 };
 use pictures::append_legend;
 use std::alloc::Global;
-use tag::Memory;
+use tag::{Memory, OpId};
 
 /// How many keys the table has at most.
 const TABLE_SIZE: usize = 1000;
@@ -56,13 +60,28 @@ fn append_counts(page: &mut Vec<u8>, counts: KeyCounts) -> Result<(), Memory>
     append_count(page, counts.at_once)
 }
 
+/// Opens the link of the key of that number: to the bar of the first of the calls that show why it is
+/// refused, or, if there are none, to its section.
+fn open_link(alloc: Global, page: &mut Vec<u8>, n: usize, faulty: &[OpId]) -> Result<(), Memory>
+    ensures { OnOk result (page.new.items ≡ page.old.items ++ opening_tag Element.A
+        (fault_href n faulty.now)) }
+{
+    let Some(call) = faulty.first() else {
+        let section = Attribute::Numbered(AttributeName::Href, words::TO_KEY, n as u64);
+        return append_opening(page, Element::A, &[section]);
+    };
+    let targets = bar_targets(alloc, n)?;
+    let bar = Attribute::Numbered(AttributeName::Href, targets.as_str(), u64::from(call.0));
+    append_opening(page, Element::A, &[bar])
+}
+
 /// The row of a key in the table.
 #[derive(Clone, Copy)]
 struct Row<'a> {
-    /// How many of the first keys have pictures.
-    drawn: usize,
     /// The key's number in the table.
     n: usize,
+    /// The calls that show why it is refused, if it has a picture.
+    faulty: Option<&'a [OpId]>,
     key: &'a JudgedKey<'a>,
 }
 
@@ -70,14 +89,14 @@ impl Row<'_> {
     /// Adds what was found of the key; it leads to its picture, if it has one.
     #[tactic(auto, unfolding(markup::specs::Markup::rendered))]
     fn append_link(&self, alloc: Global, page: &mut Vec<u8>) -> Result<(), Memory>
-        ensures { OnOk result (page.new.items ≡ page.old.items
-            ++ rendered (finding_link self.now.drawn self.now.n (judgement_of self.now.key.now))) }
+        ensures { OnOk result (page.new.items ≡ page.old.items ++ rendered (finding_link
+            self.now.n (option_map (λ calls. calls.now) self.now.faulty)
+            (judgement_of self.now.key.now))) }
     {
-        if self.n >= self.drawn {
+        let Some(faulty) = self.faulty else {
             return append_finding(alloc, page, self.key);
-        }
-        let target = Attribute::Numbered(AttributeName::Href, words::TO_KEY, self.n as u64);
-        append_opening(page, Element::A, &[target])?;
+        };
+        open_link(alloc, page, self.n, faulty)?;
         append_finding(alloc, page, self.key)?;
         append_closing(page, Element::A)
     }
@@ -85,8 +104,9 @@ impl Row<'_> {
     /// Adds the first cell.
     #[tactic(auto, unfolding(markup::specs::Markup::rendered))]
     fn append_cell(&self, alloc: Global, page: &mut Vec<u8>) -> Result<(), Memory>
-        ensures { OnOk result (page.new.items ≡ page.old.items
-            ++ rendered (finding_cell self.now.drawn self.now.n (judgement_of self.now.key.now))) }
+        ensures { OnOk result (page.new.items ≡ page.old.items ++ rendered (finding_cell
+            self.now.n (option_map (λ calls. calls.now) self.now.faulty)
+            (judgement_of self.now.key.now))) }
     {
         let scope = Attribute::Words(AttributeName::Scope, words::ROW_SCOPE);
         append_opening(page, Element::Th, &[scope])?;
@@ -97,8 +117,9 @@ impl Row<'_> {
     /// Adds the row with those counts of the key's calls.
     #[tactic(auto, unfolding(markup::specs::Markup::rendered))]
     fn append(&self, alloc: Global, page: &mut Vec<u8>, counts: KeyCounts) -> Result<(), Memory>
-        ensures { OnOk result (page.new.items ≡ page.old.items ++ rendered
-            (row_markup self.now.drawn self.now.n (judgement_of self.now.key.now) counts)) }
+        ensures { OnOk result (page.new.items ≡ page.old.items ++ rendered (row_markup
+            self.now.n (option_map (λ calls. calls.now) self.now.faulty)
+            (judgement_of self.now.key.now) counts)) }
     {
         let class = Attribute::Words(AttributeName::Class, verdict_class(self.key.finding));
         append_opening(page, Element::Tr, &[class])?;
@@ -109,8 +130,8 @@ impl Row<'_> {
 
     /// Counts the key's calls, and adds the row.
     fn add(&self, alloc: Global, page: &mut Vec<u8>) -> Result<(), Memory>
-        ensures { OnOk result
-            (Adds (IsRowOf self.now.drawn self.now.n (judgement_of self.now.key.now))
+        ensures { OnOk result (Adds (IsRow self.now.n
+            (option_map (λ calls. calls.now) self.now.faulty) (judgement_of self.now.key.now))
             page.old.items page.new.items) }
     {
         let key = self.key;
@@ -155,15 +176,15 @@ fn append_table_front(page: &mut Vec<u8>) -> Result<(), Memory>
     append_closing(page, Element::Thead)
 }
 
-/// Adds the table of the keys, of which the first have pictures.
+/// Adds the table of the keys, the first of which have pictures.
 pub(crate) fn add_table(
     alloc: Global,
     page: &mut Vec<u8>,
-    drawn: usize,
+    pictured: &[PicturedKey<'_>],
     keys: &[JudgedKey<'_>],
 ) -> Result<(), Memory>
-    ensures { OnOk result
-        (Adds (IsTableOf drawn (map judgement_of keys.now)) page.old.items page.new.items) }
+    ensures { OnOk result (Adds (IsTableOf (map faulty_in pictured.now)
+        (map judgement_of keys.now)) page.old.items page.new.items) }
 {
     let first = &keys[..keys.len().min(TABLE_SIZE)];
     let class = Attribute::Words(AttributeName::Class, words::KEYS);
@@ -171,7 +192,8 @@ pub(crate) fn add_table(
     append_table_front(page)?;
     append_opening(page, Element::Tbody, &[])?;
     for (n, key) in first.iter().enumerate() {
-        let row = Row { drawn, n, key };
+        let faulty = faulty_at(pictured, n);
+        let row = Row { n, faulty, key };
         row.add(alloc, page)?;
     }
     append_closing(page, Element::Tbody)?;

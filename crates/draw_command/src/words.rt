@@ -48,6 +48,10 @@ pub(crate) const REFUSED: &str = "Keys refused: ";
 
 pub(crate) const OF_KEYS: &str = " of ";
 
+pub(crate) const COLON: &str = ": ";
+
+pub(crate) const ARE_REFUSED: &str = " keys refused";
+
 pub(crate) const NO_KEYS: &str =
     "No call is drawn: the history has none, or none on the key that was asked for.";
 
@@ -82,11 +86,17 @@ pub(crate) const IN_HALL: &str = ", hall ";
 
 pub(crate) const CALLS_SHOWN: &str = "Calls shown: ";
 
+pub(crate) const NO_CALL: &str = "none";
+
+pub(crate) const TO: &str = " to ";
+
+pub(crate) const AND: &str = " and ";
+
+pub(crate) const SHARE: &str = " (";
+
 pub(crate) const OF: &str = " of ";
 
-pub(crate) const FROM_CALL: &str = ", from call ";
-
-pub(crate) const TO_CALL: &str = " to call ";
+pub(crate) const SHARE_END: &str = ")";
 
 pub(crate) const OTHERS: &str =
     ". Where calls are left out, a row says how many. --around shows those around another call, --calls \
@@ -95,6 +105,14 @@ more or fewer.";
 pub(crate) const AROUND: &str = "--around: call ";
 
 pub(crate) const NOT_THERE: &str = " isn\u{2019}t among these calls.";
+
+pub(crate) const ON_KEY: &str = " is on key ";
+
+pub(crate) const UNDRAWN_KEY: &str = ", which isn\u{2019}t drawn: --key draws it.";
+
+pub(crate) const NOWHERE: &str = "--around: the history has no call ";
+
+pub(crate) const STOP: &str = ".";
 
 // ---- styles
 

@@ -19,10 +19,9 @@ use Rattle.draw_command.specs.Making.{Adds}
 use Rattle.draw_command.specs.Pages.{IsEach}
 use Rattle.draw_command.specs.declared.drawn.Drawn.{Drawn}
 use Rattle.markup.specs.Markup.{Markup, both, rendered}
-use Rattle.pictures.specs.Sheets.{legend}
 use Rattle.draw_command.proofs.Adding.{adds_after, adds_both, adds_more, adds_none}
 use Rattle.whole_pictures.specs.Together.{IsTogether, found_of_all, found_with}
-use Rattle.whole_pictures.specs.WholePages.{AreFoundOf, AreOfHall, IsSectionOfHall, IsSectionOfOthers, IsWholeContent, have_notes}
+use Rattle.whole_pictures.specs.WholePages.{AreFoundOf, AreOfHall, IsSectionOfHall, IsSectionOfOthers, IsWholeContent, above_sections, have_calls, have_notes}
 use Rattle.whole_pictures.specs.declared.together.Together.{Together}
 use Rattle.whole_pictures.proofs.Zips.{back_of, front_of, left_of, map_drop, zip_next}
 
@@ -203,7 +202,7 @@ module _ (numbered : NumberedHistories) (drawn : Drawn) (checked : List CheckedK
 
   -- the page's content: the signs' meaning, the halls' sections, and that of keys without calls
   pub content_added : (n : ℕ) (left rest : List CheckedKey) (f : Found) (t : Together) (old a mid new : List ℕ)
-      → length numbered.histories.halls ≤ n → a ≡ old ++ rendered (legend (have_notes checked))
+      → length numbered.histories.halls ≤ n → a ≡ old ++ rendered (above_sections (have_calls checked) (have_notes checked))
       → IsUnderWay numbered drawn checked n left f a mid → rest ≡ left → IsTogether drawn.selection.judged rest t
       → Adds (IsSectionOfOthers numbered t) mid new
       → Adds (IsWholeContent numbered drawn checked (found_with f t)) old new
@@ -215,7 +214,7 @@ module _ (numbered : NumberedHistories) (drawn : Drawn) (checked : List CheckedK
       let IsHalls = IsEach (IsSectionOfHall numbered drawn) 0 done.halls in
       let Both = λ (m : Markup). (one : Markup) × (other : Markup) × IsHalls one × IsSectionOfOthers numbered t other × (m ≡ both one other) in
       let sections = adds_both IsHalls (IsSectionOfOthers numbered t) a mid new done.added last in
-      let whole = adds_after Both (legend (have_notes checked)) old a new first sections in
+      let whole = adds_after Both (above_sections (have_calls checked) (have_notes checked)) old a new first sections in
       let m = whole.1.1 in (
         whole.0,
         record {
@@ -233,7 +232,7 @@ module _ (numbered : NumberedHistories) (drawn : Drawn) (checked : List CheckedK
           last = m.1;
           last_is = m.3;
           found_is = ap (λ (g : Found). found_with g t) done.found_is ∙ sym (found_more found.Good done.halls t);
-          is = whole.1.2 ∙ ap (both (legend (have_notes checked))) m.4;
+          is = whole.1.2 ∙ ap (both (above_sections (have_calls checked) (have_notes checked))) m.4;
         },
         whole.2,
       )

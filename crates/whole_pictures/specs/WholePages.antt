@@ -1,9 +1,9 @@
 -- The page of whole histories: a section for each hall, with a picture of all its calls.
-use Rattle.std.specs.Prelude.{ℕ, ◌≡◌, Bool, List, [], ◌∷◌, ◌++◌, Some, cond, decimal, length, map}
+use Rattle.std.specs.Prelude.{ℕ, ◌≡◌, Bool, true, false, List, [], ◌∷◌, ◌++◌, Some, cond, decimal, length, map}
 use Rattle.std.specs.Prelude.{nat_lt, slice_get}
 use Rattle.std.specs.List.{AllZip, list_any}
 use Rattle.markup.specs.Markup.{Markup, nothing, text, element, both, page_text}
-use Rattle.markup.specs.Texts.{of_class, plain}
+use Rattle.markup.specs.Texts.{of_class, plain, worded}
 use Rattle.markup.specs.declared.names.AttributeName.TheVariants as name
 use Rattle.markup.specs.declared.names.Element.TheVariants as tag
 use Rattle.recorder.specs.declared.order.KeyOrder.{KeyOrder}
@@ -103,6 +103,19 @@ others_markup t words = element tag.Section
 abbrev pub have_notes : List CheckedKey → Bool
 have_notes keys = list_any (λ one. has_note one.part) keys
 
+-- one of the keys has a call
+abbrev pub have_calls : List CheckedKey → Bool
+have_calls keys = list_any (λ one. nat_lt 0 (length one.part)) keys
+
+-- the words that no call is drawn, unless there is one
+abbrev pub none_line : Bool → Markup
+none_line true = nothing
+none_line false = worded tag.P word.HINT.now word.NO_CALL.now
+
+-- what stands above the sections: that, and what the pictures' signs mean, of tags if there are some
+abbrev pub above_sections : Bool → Bool → Markup
+above_sections called tagged = both (none_line called) (legend tagged)
+
 -- that was found of the keys of each hall
 abbrev pub AreFoundOf : Judged → List KeyOrder → List KeyParts → List Together → Type 0
 AreFoundOf judged orders parts all =
@@ -153,8 +166,8 @@ module _ (numbered : NumberedHistories) (drawn : Drawn) where
       (reason_markup (bar_targets n) picture.faulty.now t words)
       (showing_markup drawn.around picture))
 
-  -- what a page says and shows of the keys: for each hall its section, and one for keys without
-  -- calls
+  -- what a page says and shows of the keys: that there is no call, if there is none; for each hall
+  -- its section; and one for keys without calls
   pub record IsWholeContent (checked : List CheckedKey) (f : Found) (content : Markup) : Type 0
     where
       pub orders : List KeyOrder
@@ -171,7 +184,8 @@ module _ (numbered : NumberedHistories) (drawn : Drawn) where
       pub last : Markup
       pub last_is : IsSectionOfOthers numbered rest last
       pub found_is : f ≡ found_of_all found.Good (halls ++ rest ∷ [])
-      pub is : content ≡ both (legend (have_notes checked)) (both sections last)
+      pub is : content ≡ both (above_sections (have_calls checked) (have_notes checked))
+          (both sections last)
 
 -- the page around what it says and shows
 abbrev pub page_markup : List ℕ → Markup → Markup

@@ -1,6 +1,8 @@
 //! What a page says and shows of histories.
-ghost use Rattle.std.specs.Prelude.{◌≡◌, ◌<◌, IfOk, List, Some, length, map, slice_get};
+ghost use Rattle.std.specs.Prelude.{◌≡◌, ◌<◌, ◌++◌, IfOk, List, OnOk, Some, length, map, nat_lt};
+ghost use Rattle.std.specs.Prelude.{slice_get};
 ghost use Rattle.std.specs.List.{list_any};
+ghost use Rattle.markup.specs.Markup.{rendered};
 ghost use Rattle.cli.specs.Hints.{has_note};
 ghost use Rattle.recorder.specs.Histories.{Recorded};
 ghost use Rattle.recorder.specs.Records.{AreParts};
@@ -11,12 +13,14 @@ ghost use Rattle.judged_keys.specs.Files.{HaveKeys};
 ghost use Rattle.judged_keys.specs.Halls.{HasLinesOfEach};
 ghost use Rattle.draw_command.specs.Making.{Adds};
 ghost use Rattle.whole_pictures.specs.Together.{found_with};
-ghost use Rattle.whole_pictures.specs.WholePages.{IsWholeContent};
+ghost use Rattle.whole_pictures.specs.WholePages.{IsWholeContent, above_sections, none_line};
 
 use crate::section::{add_others, add_section, hall_at};
 use crate::together::Together;
 use crate::whole::Task;
+use crate::words;
 use cli::{Found, has_note};
+use markup::{Element, append_worded};
 use parallel_keys::KeyToCheck;
 use pictures::append_legend;
 use recorder::laws::the_parts_are_one_list;
@@ -59,7 +63,36 @@ fn have_notes(keys: &[KeyToCheck<'_>]) -> bool
     keys.iter().any(|one| has_note(&one.part))
 }
 
-/// Adds a section for each hall, and one of the keys without calls if one of them is refused. What was
+/// Whether one of the keys has a call.
+fn have_calls(keys: &[KeyToCheck<'_>]) -> bool
+    ensures { result ≡ list_any (λ one. nat_lt 0 (length one.part)) keys.now }
+{
+    keys.iter().any(|one| 0 < one.part.len())
+}
+
+/// Says that no call is drawn, unless there is one.
+#[tactic(auto, unfolding(markup::specs::Markup::rendered))]
+fn append_none(page: &mut Vec<u8>, called: bool) -> Result<(), Memory>
+    ensures { OnOk result (page.new.items ≡ page.old.items ++ rendered (none_line called)) }
+{
+    if called {
+        Ok(())
+    } else {
+        append_worded(page, Element::P, words::HINT, words::NO_CALL)
+    }
+}
+
+/// Adds what stands above the sections.
+#[tactic(auto, unfolding(markup::specs::Markup::rendered))]
+fn append_above(page: &mut Vec<u8>, called: bool, tagged: bool) -> Result<(), Memory>
+    ensures { OnOk result (page.new.items
+        ≡ page.old.items ++ rendered (above_sections called tagged)) }
+{
+    append_none(page, called)?;
+    append_legend(page, tagged)
+}
+
+/// Says that no call is drawn, if there is none, and adds a section for each hall, and one of the keys without calls if one of them is refused. What was
 /// found of all.
 pub(crate) fn add_halls(
     alloc: Global,
@@ -73,8 +106,9 @@ pub(crate) fn add_halls(
     ensures { IfOk result (λ found. Adds (IsWholeContent task.now.numbered.now task.now.drawn
         (map what_of keys.now) found) page.old.items page.new.items) }
 {
+    let called = have_calls(keys);
     let tagged = have_notes(keys);
-    append_legend(page, tagged)?;
+    append_above(page, called, tagged)?;
     let halls = task.numbered.histories.halls().len();
     let mut found = Found::Good;
     let mut from = 0usize;

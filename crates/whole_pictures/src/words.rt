@@ -13,6 +13,8 @@ pub(crate) const WHY: &str = "why";
 
 pub(crate) const SUM: &str = "sum";
 
+pub(crate) const HINT: &str = "hint";
+
 pub(crate) const HALL: &str = "Hall ";
 
 pub(crate) const COMMA: &str = ", ";
@@ -29,6 +31,8 @@ pub(crate) const KEYS_REFUSED: &str = "Keys refused: ";
 
 pub(crate) const WHY_THE_FIRST_IS: &str =
     ". Below is why the first is refused; abd draw without --whole draws the keys one by one, refused ones first.";
+
+pub(crate) const NO_CALL: &str = "No call is drawn: the history has none.";
 
 pub(crate) const NO_CALLS: &str = "Keys without calls";
 
