@@ -2,7 +2,7 @@
 
 Reads pages of `abd draw` as XML, and compares what they show with the history, read here by other means. The histories are those of COUNT
 random scripts (100 if not given), drawn by their tags, by their orders and by their values, the same where some reads answer something
-else, by their values, and one with values that look like markup.
+else, by their values, one with values that look like markup, and some of many clients, which share columns.
 
 Of each key it compares the calls, their clients and columns, the rows where they begin and end, and the points of a `yes`; so it does of
 all keys together (`--whole`), whose one order it makes of the keys' orders, and on the page of a script, whose messages it compares with
@@ -78,6 +78,47 @@ def named(bar):
     return [int(it) for it in re.match(r"call (\d+), client (\d+), ", bar.find("title").text).groups()]
 
 
+def columns_of(own, ops):
+    """The column of each client of the calls: its own, or, of more than 16, the first that is free where it begins its first call."""
+    clients = sorted({own[op]["client"] for op in ops})
+    if len(clients) <= 16:
+        return {client: place for place, client in enumerate(clients)}
+    columns, until = {}, []
+    for op in sorted(ops):
+        client, begins = own[op]["client"], own[op]["begins"]
+        if client not in columns:
+            free = [place for place, end in enumerate(until) if end and end < begins]
+            columns[client] = free[0] if free else len(until)
+            ends = [own[it]["ends"] for it in ops if own[it]["client"] == client]
+            until[columns[client]:columns[client] + 1] = [None if None in ends else max(ends)]
+    return columns
+
+
+def check_head(text, clients):
+    """The head of a column names its clients, or says how many they are."""
+    numbers = ", ".join(map(str, clients))
+    fits = [f"client{'s' * (len(clients) > 1)} {numbers}", numbers] + [f"{len(clients)} clients"] * (len(clients) > 1)
+    expect(text in fits, "head", text, "of clients", clients)
+
+
+def check_columns(picture, bars, own):
+    """Each client has the column that it should have, with its name in the head and, in a shared one, in its bars. Where each is."""
+    column_of = columns_of(own, bars)
+    clients = [sorted(it for it in column_of if column_of[it] == place) for place in range(len(set(column_of.values())))]
+    heads = {}
+    for it in elements(picture, "text", "client"):
+        heads.setdefault(number(it, "x"), set()).add(it.text)
+    expect(len(heads) == len(clients) and all(len(texts) == 1 for texts in heads.values()), "heads", heads, "of", clients)
+    places = sorted(heads)
+    for x, column in zip(places, clients):
+        check_head(*heads[x], column)
+    for op, bar in bars.items():
+        client = own[op]["client"]
+        says = f" c{client} " in bar.find("text").text.rstrip("\u2026") + " "
+        expect(says == (len(clients[column_of[client]]) > 1), "client said in the bar of", op, bar.find("text").text)
+    return {client: places[column] for client, column in column_of.items()}
+
+
 def check_bar(bar, call, client_at, row_of):
     left, right, top, bottom = corners(bar)
     expect(named(bar)[1] == call["client"], "client of", call)
@@ -131,7 +172,7 @@ def check_calls(section, own, most, of):
     expect(ranges == ranges_of(bars, own), "ranges of calls of", of, ranges)
     expect(total == len(own) and shown == len(bars) and shown == len(elements(picture, "g")), "calls of", of)
     expect(set(bars) <= set(own) and (shown == most or set(bars) == set(own)), "calls shown of", of)
-    client_at = {int(it.text.split(" ")[-1]): number(it, "x") for it in elements(picture, "text", "client")}
+    client_at = check_columns(picture, bars, own)
     row_of = {int(it.text[5:]): number(it, "y") - 4 for it in elements(picture, "text", "line")}
     for op, bar in bars.items():
         expect(own[op]["kind"] in bar.get("class"), "kind of", op)
@@ -378,6 +419,31 @@ def check_unruly(abd, place):
         expect(json.dumps(value) in title, value, "in", title)
 
 
+def check_many(abd, place, seed):
+    """A history of many clients, each with one call or some, of which few are under way at once."""
+    path, chosen = os.path.join(place, "many"), random.Random(seed)
+    rows, busy, gone, call, client = [], [], set(), 0, 1
+    while call < 150 or busy:
+        if call < 150 and len(busy) < chosen.randint(1, 12):
+            again = [it for it in range(1, client) if it not in gone and chosen.random() < 0.02]
+            caller = again[0] if again else client
+            client = max(client, caller + 1)
+            rows.append({"call": call, "client": caller, "do": "read", "key": "x", "row": "invoke"})
+            busy.append((call, caller))
+            gone.add(caller)
+            call += 1
+        else:
+            op, caller = busy.pop(chosen.randrange(len(busy)))
+            if chosen.random() < 0.95:
+                rows.append({"call": op, "row": "respond", "value": None})
+                gone.discard(caller)
+    with open(path, "w", encoding="utf-8") as file:
+        file.write('{"abd":"history","version":1}\n' + "".join(json.dumps(it) + "\n" for it in rows))
+    own = calls_of(path)
+    section = next(read_page(run(abd, "draw", "--by", "values", path)[1]).iter("section"))
+    check_calls(section, own, 200, "many clients")
+
+
 def count(trace, pattern):
     return len(re.findall(pattern, trace, re.M))
 
@@ -569,6 +635,8 @@ def main():
     count = int(sys.argv[2]) if len(sys.argv) > 2 else 100
     with tempfile.TemporaryDirectory() as place:
         check_unruly(abd, place)
+        for seed in range(5):
+            check_many(abd, place, seed)
         checked = sum(check_script(abd, place, seed) for seed in range(count))
     print(f"the pages of {checked} histories show what they hold")
 

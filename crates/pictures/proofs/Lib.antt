@@ -4,3 +4,4 @@ pub mod Rendering
 pub mod Rows
 mod Readable
 mod Naming
+mod Heads

@@ -7,18 +7,20 @@ use Rattle.labels.proofs.Standing.{near_is, nearer, one_step, stays_before}
 use Rattle.scenes.specs.declared.scene.Bar.{Bar}
 use Rattle.scenes.specs.declared.scene.Dot.{Dot}
 use Rattle.scenes.specs.declared.scene.Scene.{Scene}
+use Rattle.scenes.specs.Columns.{EndsBefore}
 use Rattle.scenes.specs.Scenes.{IsPlaceIn}
+use Rattle.tag.proofs.Lists.{place_of}
 use Rattle.pictures.specs.declared.sizes.TheConstants.{BAR_FOOT, BAR_LEFT, BAR_MARGINS, BAR_TOP, COLUMNS, DOT_LEFT, DOT_RADIUS, FLOOR}
 use Rattle.pictures.specs.declared.sizes.TheConstants.{MIDDLE, NARROWEST, ROW, TEXT_LEFT, WIDEST}
 use Rattle.pictures.specs.Dots.{dot_x, dot_y, lane_or_first}
 use Rattle.pictures.specs.Frames.{bottom_of, frame_of}
-use Rattle.pictures.specs.Layout.{IsInOrder, across, column_width, down, row_of_dot, row_of_place, rows_of}
-use Rattle.pictures.specs.Readable.{HasCircle, HasTexts, IsWithinReach}
-use Rattle.pictures.proofs.Rows.{dot_above_place, dot_not_above, dot_within_rows}
+use Rattle.pictures.specs.Layout.{IsInOrder, across, column_of, column_width, down, row_of_dot, row_of_place, rows_of}
+use Rattle.pictures.specs.Readable.{HasCircle, HasTexts, HasTick, IsWithinReach}
+use Rattle.pictures.proofs.Rows.{dot_above_place, dot_not_above, dot_within_rows, tick_above}
 
 -- a column is at least so wide
 pub wide : (scene : Scene) → NARROWEST ≤ column_width scene
-wide scene = le-max_right (min (COLUMNS / max (length scene.lanes.items) 1) WIDEST) NARROWEST
+wide scene = le-max_right (min (COLUMNS / max (length scene.columns.items) 1) WIDEST) NARROWEST
 
 pub rows_down : (start i j : ℕ) → i < j → down start j < farthest → down start i < down start j
 rows_down start i j less near =
@@ -31,30 +33,47 @@ columns_right scene start i j less near =
     let step = one_step i j w less in
     stays_before (start + i * w) (start + j * w) farthest (omega (arith, step, wide scene)) near
 
-pub bars_right : (scene : Scene) (bar next : Bar) → bar.lane < next.lane → (frame_of scene next).left < farthest
+pub bars_right : (scene : Scene) (bar next : Bar) → column_of scene bar.lane < column_of scene next.lane → (frame_of scene next).left < farthest
     → (frame_of scene bar).right < (frame_of scene next).left
 bars_right scene bar next less near =
     let w = column_width scene in
-    let step = one_step bar.lane next.lane w less in
-    stays_before (BAR_LEFT + (w - BAR_MARGINS) + bar.lane * w) (BAR_LEFT + next.lane * w) farthest (omega (arith, step, wide scene)) near
+    let own = column_of scene bar.lane in
+    let other = column_of scene next.lane in
+    let step = one_step own other w less in
+    stays_before (BAR_LEFT + (w - BAR_MARGINS) + own * w) (BAR_LEFT + other * w) farthest (omega (arith, step, wide scene)) near
+
+-- a bar that ends before another one begins stands above it
+pub bars_below : (scene : Scene) (bar next : Bar) → IsInOrder scene → HasTick scene bar → EndsBefore bar next
+    → (frame_of scene next).top < farthest → (frame_of scene bar).bottom < (frame_of scene next).top
+bars_below scene bar next ordered ticks before near =
+    let end = before.0 in
+    let i = place_of scene.ticks.items end (ticks end before.1) in
+    let row = row_of_place scene end in
+    let row_next = row_of_place scene next.begins in
+    let above : row < row_next = tick_above scene ordered i.0 end next.begins i.1 before.2 in
+    let step = one_step row row_next ROW above in
+    let shown : bottom_of scene bar.ends ≡ down BAR_FOOT row = ap (bottom_of scene) before.1 in
+    let low = stays_before (BAR_FOOT + row * ROW) (BAR_TOP + row_next * ROW) farthest (omega (arith, step)) near in
+    omega (arith, shown, low)
 
 -- where the sides of a bar stand that ends before the farthest place, and what stands between them
-module _ (scene : Scene) (lane : ℕ) (near : across scene (BAR_LEFT + (column_width scene - BAR_MARGINS)) lane < farthest) where
+module _ (scene : Scene) (column : ℕ) (near : across scene (BAR_LEFT + (column_width scene - BAR_MARGINS)) column < farthest) where
   abbrev right_end : ℕ
-  right_end = BAR_LEFT + (column_width scene - BAR_MARGINS) + lane * column_width scene
+  right_end = BAR_LEFT + (column_width scene - BAR_MARGINS) + column * column_width scene
 
-  right_is : across scene (BAR_LEFT + (column_width scene - BAR_MARGINS)) lane ≡ right_end
+  right_is : across scene (BAR_LEFT + (column_width scene - BAR_MARGINS)) column ≡ right_end
   right_is = nearer right_end farthest near
 
-  inside_is : (start : ℕ) → start + lane * column_width scene ≤ right_end → across scene start lane ≡ start + lane * column_width scene
-  inside_is start le = near_is (start + lane * column_width scene) farthest (omega (arith, le, near, right_is))
+  inside_is : (start : ℕ) → start + column * column_width scene ≤ right_end → across scene start column ≡ start + column * column_width scene
+  inside_is start le = near_is (start + column * column_width scene) farthest (omega (arith, le, near, right_is))
 
 pub texts_inside : (scene : Scene) (bar : Bar) → IsWithinReach (frame_of scene bar) → HasTexts scene bar
 texts_inside scene bar reach =
     let w = column_width scene in
-    let right = right_is scene bar.lane reach.right in
-    let left = inside_is scene bar.lane reach.right BAR_LEFT (omega (arith, wide scene)) in
-    let text = inside_is scene bar.lane reach.right TEXT_LEFT (omega (arith, wide scene)) in
+    let column = column_of scene bar.lane in
+    let right = right_is scene column reach.right in
+    let left = inside_is scene column reach.right BAR_LEFT (omega (arith, wide scene)) in
+    let text = inside_is scene column reach.right TEXT_LEFT (omega (arith, wide scene)) in
     record { left = omega (arith, left, text); right = omega (arith, right, text, wide scene) }
 
 module _ (scene : Scene) (ordered : IsInOrder scene) (index : ℕ) (d : Dot) (at : slice_get scene.dots.items index ≡ Some d) where
@@ -81,10 +100,12 @@ module _ (scene : Scene) (ordered : IsInOrder scene) (index : ℕ) (d : Dot) (at
       let below = dot_not_above scene ordered index bar.begins d at within.0 in
       let top : (frame_of scene bar).top ≡ BAR_TOP + row_of_place scene bar.begins * ROW =
       near_is (BAR_TOP + row_of_place scene bar.begins * ROW) farthest (omega (arith, foot, reach.bottom, below)) in
-      let right = right_is scene bar.lane reach.right in
-      let left = inside_is scene bar.lane reach.right BAR_LEFT (omega (arith, wide scene)) in
-      let x : dot_x scene d ≡ DOT_LEFT + bar.lane * w =
-      ap (λ (l : ℕ). across scene DOT_LEFT l) (ap lane_or_first on) ∙ inside_is scene bar.lane reach.right DOT_LEFT (omega (arith, wide scene)) in
+      let column = column_of scene bar.lane in
+      let right = right_is scene column reach.right in
+      let left = inside_is scene column reach.right BAR_LEFT (omega (arith, wide scene)) in
+      let x : dot_x scene d ≡ DOT_LEFT + column * w =
+      ap (λ (l : ℕ). across scene DOT_LEFT (column_of scene l)) (ap lane_or_first on)
+      ∙ inside_is scene column reach.right DOT_LEFT (omega (arith, wide scene)) in
       record {
         left = omega (arith, left, x);
         right = omega (arith, right, x, wide scene);

@@ -155,10 +155,9 @@ module _ (scene : Scene) (ordered : IsInOrder scene) where
       (λ d is. below d.place q (let h = from_below d.place p is in omega (arith, h, le))) scene.dots.items in
       omega (arith, ticks, dots)
 
-  ticks_in_order : (i j p q : ℕ) → i < j → slice_get scene.ticks.items i ≡ Some p → slice_get scene.ticks.items j ≡ Some q
-      → row_of_place scene p < row_of_place scene q
-  ticks_in_order i j p q less at_i at_j =
-      let rise = ticks_rise scene.ticks.items ordered.ticks i j p q less at_i at_j in
+  -- a tick stands above the row of a later place
+  pub tick_above : (i p q : ℕ) → slice_get scene.ticks.items i ≡ Some p → p < q → row_of_place scene p < row_of_place scene q
+  tick_above i p q at_i rise =
       let ticks = count_more (λ (t : ℕ). nat_lt t p) (λ (t : ℕ). nat_lt t q) (λ t is. below t q (let h = from_below t p is in omega (arith, h, rise)))
       scene.ticks.items i p at_i (not_below p p (omega arith)) (below p q rise)
       in
@@ -167,6 +166,10 @@ module _ (scene : Scene) (ordered : IsInOrder scene) where
       in
       let gaps = gaps_more p q (omega (arith, rise)) in
       omega (arith, ticks, dots, gaps)
+
+  ticks_in_order : (i j p q : ℕ) → i < j → slice_get scene.ticks.items i ≡ Some p → slice_get scene.ticks.items j ≡ Some q
+      → row_of_place scene p < row_of_place scene q
+  ticks_in_order i j p q less at_i at_j = tick_above i p q at_i (ticks_rise scene.ticks.items ordered.ticks i j p q less at_i at_j)
 
   dots_in_order : (i j : ℕ) (d e : Dot) → i < j → slice_get scene.dots.items i ≡ Some d → slice_get scene.dots.items j ≡ Some e
       → row_of_dot scene i d.place < row_of_dot scene j e.place

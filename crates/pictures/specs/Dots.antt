@@ -11,7 +11,7 @@ use Rattle.scenes.specs.declared.scene.Scene.{Scene}
 use Rattle.pictures.specs.declared.sizes.TheConstants.{DOT_LEFT, DOT_RADIUS, LINE_LETTERS, MIDDLE}
 use Rattle.pictures.specs.declared.sizes.TheConstants.{NUMBER_LEFT, TEXT_BASE}
 use Rattle.pictures.specs.declared.style.TheConstants.{DOT, NUMBER, PATH}
-use Rattle.pictures.specs.Layout.{across, down, row_of_dot}
+use Rattle.pictures.specs.Layout.{across, column_of, down, row_of_dot}
 
 -- the lane of that bar; the first if there is none
 abbrev pub lane_or_first : Option Bar → ℕ
@@ -24,13 +24,13 @@ circle x y = empty tag.Circle (words_of name.Class DOT.now ∷ number_of name.Cx
     ∷ number_of name.Cy y ∷ number_of name.R DOT_RADIUS ∷ [])
 
 module _ (scene : Scene) where
-  -- the lane of a dot: that of its bar
-  abbrev pub lane_of : Dot → ℕ
-  lane_of dot = lane_or_first (slice_get scene.bars.items dot.bar)
+  -- the column of a dot: that of its bar's lane
+  abbrev pub dot_column : Dot → ℕ
+  dot_column dot = column_of scene (lane_or_first (slice_get scene.bars.items dot.bar))
 
-  -- where a dot stands: in the column of its lane
+  -- where a dot stands: in its column
   abbrev pub dot_x : Dot → ℕ
-  dot_x dot = across scene DOT_LEFT (lane_of dot)
+  dot_x dot = across scene DOT_LEFT (dot_column dot)
 
   -- and, of that index, in its row
   abbrev pub dot_y : ℕ → Dot → ℕ
@@ -39,7 +39,7 @@ module _ (scene : Scene) where
   -- the dot of that index, and beside it its place in the order
   abbrev pub dot_markup : ℕ → Dot → Markup
   dot_markup index d = both (circle (dot_x d) (dot_y index d))
-      (label_markup NUMBER.now (across scene NUMBER_LEFT (lane_of d))
+      (label_markup NUMBER.now (across scene NUMBER_LEFT (dot_column d))
       (down TEXT_BASE (row_of_dot scene index d.place)) LINE_LETTERS (decimal d.number))
 
   -- where the dot of that index stands, in tenths of a pixel

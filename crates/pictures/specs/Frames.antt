@@ -13,7 +13,7 @@ use Rattle.labels.specs.Places.{place_and_size}
 use Rattle.pictures.specs.declared.sizes.TheConstants.{BAR_FOOT, BAR_LEFT, BAR_MARGINS, BAR_TOP}
 use Rattle.pictures.specs.declared.sizes.TheConstants.{FLOOR, READ_CORNER, WRITE_CORNER}
 use Rattle.pictures.specs.declared.style.TheConstants.{OPEN}
-use Rattle.pictures.specs.Layout.{across, column_width, down, row_of_place, rows_of}
+use Rattle.pictures.specs.Layout.{across, column_of, column_width, down, row_of_place, rows_of}
 
 -- how round the corners are of a bar of that action
 abbrev pub corner_of : Action → ℕ
@@ -53,8 +53,8 @@ module _ (scene : Scene) where
   -- where a bar stands: in its lane's column, from the row of its begin down
   abbrev pub frame_of : Bar → Frame
   frame_of bar = record {
-    left = across scene BAR_LEFT bar.lane;
-    right = across scene (BAR_LEFT + (column_width scene - BAR_MARGINS)) bar.lane;
+    left = across scene BAR_LEFT (column_of scene bar.lane);
+    right = across scene (BAR_LEFT + (column_width scene - BAR_MARGINS)) (column_of scene bar.lane);
     top = down BAR_TOP (row_of_place scene bar.begins);
     bottom = bottom_of bar.ends;
   }

@@ -1,7 +1,8 @@
--- What bars stand on: a column for each lane, and a row for each tick and for each gap.
+-- What bars stand on: columns, and a row for each tick and for each gap.
 use Rattle.std.specs.Prelude.{ℕ, ◌+◌, ◌/◌, List, length}
 use Rattle.markup.specs.Markup.{Markup}
 use Rattle.labels.specs.Labels.{line_markup}
+use Rattle.scenes.specs.declared.columns.Column.{Column}
 use Rattle.scenes.specs.declared.gaps.Gap.{Gap}
 use Rattle.scenes.specs.declared.scene.Scene.{Scene}
 use Rattle.pictures.specs.declared.sizes.TheConstants.{COLUMN_LEFT, FLOOR, MIDDLE, ROW_TOP}
@@ -9,29 +10,29 @@ use Rattle.pictures.specs.declared.style.TheConstants.{GAP, LANE, TICK}
 use Rattle.pictures.specs.Layout.{across, column_width, down, row_of_gap, row_of_place, rows_of}
 
 module _ (scene : Scene) where
-  -- the middle of a lane's column
+  -- the middle of a column
   abbrev pub middle_of : ℕ → ℕ
-  middle_of lane = across scene (COLUMN_LEFT + column_width scene / 2) lane
+  middle_of column = across scene (COLUMN_LEFT + column_width scene / 2) column
 
-  -- the line in the middle of a lane, from the first row to the floor
+  -- the line in the middle of a column, from the first row to the floor
   abbrev pub guide : ℕ → Markup
-  guide lane = line_markup LANE.now (record {
-    x1 = middle_of lane;
+  guide column = line_markup LANE.now (record {
+    x1 = middle_of column;
     y1 = ROW_TOP;
-    x2 = middle_of lane;
+    x2 = middle_of column;
     y2 = down FLOOR (rows_of scene);
   })
 
-  -- the same, of the lane of that client
-  abbrev pub lane_markup : ℕ → ℕ → Markup
-  lane_markup index client = guide index
+  -- the same, of the column of that index
+  abbrev pub column_markup : ℕ → Column → Markup
+  column_markup index column = guide index
 
   -- a line of that class over all columns, at that height
   abbrev pub level_line : List ℕ → ℕ → Markup
   level_line class y = line_markup class (record {
     x1 = COLUMN_LEFT;
     y1 = y;
-    x2 = across scene COLUMN_LEFT (length scene.lanes.items);
+    x2 = across scene COLUMN_LEFT (length scene.columns.items);
     y2 = y;
   })
 

@@ -1,8 +1,10 @@
 -- Where a picture shows what, in pixels. Time goes down: each tick, each dot and each gap of the
--- scene has a row of its own, and each lane a column.
+-- scene has a row of its own. Columns stand side by side.
 use Rattle.std.specs.Prelude.{ℕ, ◌≡◌, ◌+◌, ◌-◌, ◌/◌, ◌<◌, ◌≤◌, nat_le, nat_lt, min, max}
-use Rattle.std.specs.Prelude.{List, Some, length, map, count_by, slice_get}
+use Rattle.std.specs.Prelude.{Bool, false, List, Option, Some, None, length, map, count_by}
+use Rattle.std.specs.Prelude.{slice_get}
 use Rattle.std.specs.List.Sorted.{IsNonDecreasing, IsStrictlyIncreasing}
+use Rattle.scenes.specs.declared.columns.Column.{Column}
 use Rattle.scenes.specs.declared.gaps.Gap.{Gap}
 use Rattle.scenes.specs.declared.scene.Dot.{Dot}
 use Rattle.scenes.specs.declared.scene.Scene.{Scene}
@@ -29,6 +31,16 @@ dots_before dots place = count_by (λ dot. nat_lt dot.place place) dots
 -- how many of the gaps don't begin after the place
 abbrev pub gaps_up_to : List Gap → ℕ → ℕ
 gaps_up_to gaps place = count_by (λ gap. nat_le gap.place place) gaps
+
+-- the column of a lane, the first if there is none
+abbrev pub or_first : Option ℕ → ℕ
+or_first None = 0
+or_first (Some column) = column
+
+-- the column has several clients
+abbrev pub has_several : Option Column → Bool
+has_several None = false
+has_several (Some column) = nat_lt 1 (length column.clients.items)
 
 -- the ticks and the places of the gaps rise, and the places of the dots don't fall
 pub record IsInOrder (scene : Scene) : Type 0 where
@@ -61,11 +73,19 @@ module _ (scene : Scene) where
 
   -- the width of a column: the columns share the width of a page, as far as they stay readable
   abbrev pub column_width : ℕ
-  column_width = max (min (COLUMNS / max (length scene.lanes.items) 1) WIDEST) NARROWEST
+  column_width = max (min (COLUMNS / max (length scene.columns.items) 1) WIDEST) NARROWEST
 
-  -- so far right in that lane's column: the start is that of the first one
+  -- so far right in that column: the start is that of the first one
   abbrev pub across : ℕ → ℕ → ℕ
-  across start lane = pixels start lane column_width
+  across start column = pixels start column column_width
+
+  -- the column in which a lane stands
+  abbrev pub column_of : ℕ → ℕ
+  column_of lane = or_first (slice_get scene.lane_columns.items lane)
+
+  -- several lanes stand in that column
+  abbrev pub is_shared : ℕ → Bool
+  is_shared column = has_several (slice_get scene.columns.items column)
 
   -- how many letters a column holds
   abbrev pub room_of : ℕ

@@ -21,7 +21,7 @@ use Rattle.pictures.specs.declared.style.TheConstants.{FAULTY_READ, FAULTY_WRITE
 use Rattle.pictures.specs.declared.style.TheConstants.{TITLE, WRITE}
 use Rattle.pictures.specs.Boxes.{box_attributes, named_calls}
 use Rattle.pictures.specs.Layout.{across, down, rows_of}
-use Rattle.pictures.specs.Ground.{gap_markup, lane_markup, tick_markup}
+use Rattle.pictures.specs.Ground.{gap_markup, column_markup, tick_markup}
 use Rattle.pictures.specs.Strips.{client_name, lines_strip, names_strip}
 use Rattle.pictures.specs.Dots.{dot_markup, path_markup}
 use Rattle.pictures.specs.Frames.{corner_of, shape}
@@ -43,18 +43,19 @@ module _ (scene : Scene) where
   -- the names of the clients below the rows, in a long picture
   abbrev pub foot : Markup
   foot = if nat_lt LONG (rows_of scene)
-      then each_from (client_name scene (down FOOT_BASE (rows_of scene))) 0 scene.lanes.items
+      then each_from (client_name scene (down FOOT_BASE (rows_of scene))) 0 scene.columns.items
       else nothing
 
-  -- what bars stand on: the clients' names below, the lanes, the ticks, and the gaps
+  -- what bars stand on: the clients' names below, the columns, the ticks, and the
+  -- gaps
   abbrev pub ground : Markup
-  ground = both foot (both (each_from (lane_markup scene) 0 scene.lanes.items)
+  ground = both foot (both (each_from (column_markup scene) 0 scene.columns.items)
       (both (each (tick_markup scene) scene.ticks.items)
       (each_from (gap_markup scene) 0 scene.gaps.items)))
 
   -- the size of the picture
   abbrev pub svg_attributes : List NamedText
-  svg_attributes = image_attributes (across scene RIGHT (length scene.lanes.items))
+  svg_attributes = image_attributes (across scene RIGHT (length scene.columns.items))
       (down BOTTOM (rows_of scene))
 
 module _ (p : Picture) where

@@ -1,5 +1,5 @@
 -- What makes a picture readable: a dot stands on its bar, a bar in its column, a text in its bar.
-use Rattle.std.specs.Prelude.{ℕ, ◌+◌, ◌*◌, ◌<◌, ◌≤◌, List, [], ◌∷◌}
+use Rattle.std.specs.Prelude.{ℕ, ◌≡◌, ◌+◌, ◌*◌, ◌<◌, ◌≤◌, List, [], ◌∷◌, Some, Contains}
 use Rattle.labels.specs.declared.places.Frame.{Frame}
 use Rattle.labels.specs.Places.{farthest}
 use Rattle.scenes.specs.declared.scene.Bar.{Bar}
@@ -9,7 +9,8 @@ use Rattle.pictures.specs.declared.style.TheConstants.{ALL_KEYS, ANSWER, ANSWERS
 use Rattle.pictures.specs.declared.style.TheConstants.{BEGINS_HEADING, CALLS}
 use Rattle.pictures.specs.declared.style.TheConstants.{ANSWERED_HEADING, ANSWER_HEADING}
 use Rattle.pictures.specs.declared.style.TheConstants.{CALL_HEADING, CALL_SIGN, CLIENT}
-use Rattle.pictures.specs.declared.style.TheConstants.{CLIENT_HEADING, CLIENT_WORD, DOES}
+use Rattle.pictures.specs.declared.style.TheConstants.{CLIENTS_WORD, CLIENT_HEADING, CLIENT_SIGN}
+use Rattle.pictures.specs.declared.style.TheConstants.{CLIENT_WORD, COMMA, DOES, OF_CLIENTS}
 use Rattle.pictures.specs.declared.style.TheConstants.{FAULT_SIGN, GAP, GAP_CALL, GAP_CALLS}
 use Rattle.pictures.specs.declared.style.TheConstants.{GAP_SIGN, LINES, NAMES, OMITTED}
 use Rattle.pictures.specs.declared.style.TheConstants.{DOES_HEADING, DONE, DOT, FAULTY_KEY}
@@ -21,12 +22,16 @@ use Rattle.pictures.specs.declared.style.TheConstants.{READS, READ_KEY, ROWS, TA
 use Rattle.pictures.specs.declared.style.TheConstants.{TABLE_TITLE, TICK, TITLE}
 use Rattle.pictures.specs.declared.style.TheConstants.{WRITE, WRITES, WRITE_KEY}
 use Rattle.pictures.specs.Frames.{frame_of}
-use Rattle.pictures.specs.Layout.{across, room_of}
+use Rattle.pictures.specs.Layout.{across, column_of, room_of}
 
 -- the frame ends before the farthest place
 pub record IsWithinReach (frame : Frame) : Type 0 where
   pub right : frame.right < farthest
   pub bottom : frame.bottom < farthest
+
+-- the bar's end, if it has one, is a tick
+abbrev pub HasTick : Scene → Bar → Type 0
+HasTick scene bar = (end : ℕ) → bar.ends ≡ Some end → Contains scene.ticks.items end
 
 -- the circle of a dot about that place lies strictly within the frame
 pub record HasCircle (frame : Frame) (x y : ℕ) : Type 0 where
@@ -37,8 +42,8 @@ pub record HasCircle (frame : Frame) (x y : ℕ) : Type 0 where
 
 -- a text of a bar that takes all of its room begins and ends within the bar
 pub record HasTexts (scene : Scene) (bar : Bar) : Type 0 where
-  pub left : (frame_of scene bar).left < across scene TEXT_LEFT bar.lane
-  pub right : across scene TEXT_LEFT bar.lane + room_of scene * LETTER
+  pub left : (frame_of scene bar).left < across scene TEXT_LEFT (column_of scene bar.lane)
+  pub right : across scene TEXT_LEFT (column_of scene bar.lane) + room_of scene * LETTER
       ≤ (frame_of scene bar).right
 
 -- the names of classes
@@ -63,6 +68,6 @@ call_phrases = READS.now ∷ WRITES.now ∷ NOTES.now ∷ ANSWER.now ∷ DONE.no
 
 -- other words of a picture
 abbrev pub other_words : List (List ℕ)
-other_words = TITLE.now ∷ ALL_KEYS.now ∷ CLIENT_WORD.now ∷ LINE_WORD.now ∷ CALL_SIGN.now
-    ∷ TABLE_TITLE.now ∷ TABLE_OF.now ∷ FAULT_SIGN.now ∷ GAP_SIGN.now ∷ GAP_CALL.now
-    ∷ GAP_CALLS.now ∷ []
+other_words = TITLE.now ∷ ALL_KEYS.now ∷ CLIENT_WORD.now ∷ CLIENTS_WORD.now ∷ CLIENT_SIGN.now
+    ∷ OF_CLIENTS.now ∷ COMMA.now ∷ LINE_WORD.now ∷ CALL_SIGN.now ∷ TABLE_TITLE.now ∷ TABLE_OF.now
+    ∷ FAULT_SIGN.now ∷ GAP_SIGN.now ∷ GAP_CALL.now ∷ GAP_CALLS.now ∷ []

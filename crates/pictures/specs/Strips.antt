@@ -1,6 +1,6 @@
 -- What stays in sight while a picture scrolls: a strip with the clients' names above, and one with
 -- the lines of the history file at the left. Places are those of the picture that they lie upon.
-use Rattle.std.specs.Prelude.{ℕ, ◌==◌, ◌*◌, List, [], ◌∷◌, ◌++◌, decimal, if◌then◌else◌, length}
+use Rattle.std.specs.Prelude.{ℕ, ◌==◌, ◌+◌, ◌*◌, List, [], ◌∷◌, ◌++◌, decimal, if◌then◌else◌, length}
 use Rattle.markup.specs.Markup.{Markup, NamedText, all_tenths_text, element, both, each}
 use Rattle.markup.specs.declared.names.AttributeName.TheVariants as name
 use Rattle.markup.specs.declared.names.Element.TheVariants as tag
@@ -8,14 +8,16 @@ use Rattle.labels.specs.Each.{each_from}
 use Rattle.labels.specs.Labels.{label_markup, number_of, words_of}
 use Rattle.explanations.specs.Sentences.{line_at}
 use Rattle.explanations.specs.declared.hall_rows.HallRows.{HallRows}
+use Rattle.scenes.specs.declared.columns.Column.{Column}
 use Rattle.scenes.specs.declared.gaps.Gap.{Gap}
 use Rattle.scenes.specs.declared.scene.Scene.{Scene}
 use Rattle.pictures.specs.declared.sizes.TheConstants.{BOTTOM, COLUMN_LEFT, LINE_LETTERS}
 use Rattle.pictures.specs.declared.sizes.TheConstants.{LINE_RIGHT, NAMES_BASE, RIGHT, ROW_TOP}
 use Rattle.pictures.specs.declared.sizes.TheConstants.{TEXT_BASE}
-use Rattle.pictures.specs.declared.style.TheConstants.{CLIENT, CLIENT_WORD, GAP_CALL, GAP_CALLS}
+use Rattle.pictures.specs.declared.style.TheConstants.{CLIENT, CLIENTS_WORD, CLIENT_WORD, COMMA}
+use Rattle.pictures.specs.declared.style.TheConstants.{GAP_CALL, GAP_CALLS}
 use Rattle.pictures.specs.declared.style.TheConstants.{GAP_SIGN, HIDDEN, LINE, LINES, LINE_WORD}
-use Rattle.pictures.specs.declared.style.TheConstants.{NAMES, OMITTED}
+use Rattle.pictures.specs.declared.style.TheConstants.{NAMES, OF_CLIENTS, OMITTED}
 use Rattle.pictures.specs.Ground.{middle_of}
 use Rattle.pictures.specs.Layout.{across, down, room_of, row_of_gap, row_of_place, rows_of}
 use Rattle.pictures.specs.Words.{fitted}
@@ -32,16 +34,36 @@ abbrev pub gap_words : ℕ → List ℕ
 gap_words calls = GAP_SIGN.now ++ decimal calls
     ++ (if calls == 1 then GAP_CALL.now else GAP_CALLS.now)
 
-module _ (scene : Scene) where
-  -- what a client is called: by its number alone if there is no room for more
-  abbrev pub client_words : ℕ → List ℕ
-  client_words client =
-      fitted (room_of scene) (CLIENT_WORD.now ++ decimal client) (decimal client)
+-- the word before the numbers of these clients
+abbrev pub client_word : List ℕ → List ℕ
+client_word clients = if length clients == 1 then CLIENT_WORD.now else CLIENTS_WORD.now
 
-  -- the name of a lane's client, at that height
-  abbrev pub client_name : ℕ → ℕ → ℕ → Markup
-  client_name y lane client = label_markup CLIENT.now (middle_of scene lane) y (room_of scene)
-      (client_words client)
+-- what stands before the number of that index: before the first the words, before others a comma
+abbrev pub word_at : List ℕ → ℕ → List ℕ
+word_at words index = if index == 0 then words else COMMA.now
+
+-- the numbers of the clients, the first of that index, each after what stands before it
+abbrev pub numbers_from : List ℕ → ℕ → List ℕ → List ℕ
+numbers_from words index [] = []
+numbers_from words index (client ∷ clients) =
+    word_at words index ++ decimal client ++ numbers_from words (index + 1) clients
+
+-- the numbers of the clients, with commas between them, after those words
+abbrev pub numbers_after : List ℕ → List ℕ → List ℕ
+numbers_after words clients = numbers_from words 0 clients
+
+module _ (scene : Scene) where
+  -- what clients are called: by their numbers alone if there is no room for more, or else by how
+  -- many they are
+  abbrev pub client_words : List ℕ → List ℕ
+  client_words clients = fitted (room_of scene) (numbers_after (client_word clients) clients)
+      (fitted (room_of scene) (numbers_after [] clients)
+      (decimal (length clients) ++ OF_CLIENTS.now))
+
+  -- the name of a column's clients, at that height
+  abbrev pub client_name : ℕ → ℕ → Column → Markup
+  client_name y index column = label_markup CLIENT.now (middle_of scene index) y (room_of scene)
+      (client_words column.clients.items)
 
   -- the line of the history file at that place, in its row
   abbrev pub line_name : HallRows → ℕ → Markup
@@ -57,8 +79,8 @@ module _ (scene : Scene) where
   -- the strip of the clients' names
   abbrev pub names_strip : Markup
   names_strip = element tag.Svg
-      (strip_attributes NAMES.now (across scene RIGHT (length scene.lanes.items)) ROW_TOP)
-      (each_from (client_name NAMES_BASE) 0 scene.lanes.items)
+      (strip_attributes NAMES.now (across scene RIGHT (length scene.columns.items)) ROW_TOP)
+      (each_from (client_name NAMES_BASE) 0 scene.columns.items)
 
   -- the strip of the lines, and of how many calls are left out
   abbrev pub lines_strip : HallRows → Markup

@@ -12,7 +12,8 @@ use Rattle.recorder.specs.declared.part.Response.{Response}
 use Rattle.sentences.specs.Words.{tag_text, value_text}
 use Rattle.explanations.specs.Sentences.{line_at}
 use Rattle.explanations.specs.declared.hall_rows.HallRows.{HallRows}
-use Rattle.pictures.specs.declared.style.TheConstants.{ANSWER, BLANK, CALL_SIGN, COLON, DONE}
+use Rattle.pictures.specs.declared.style.TheConstants.{ANSWER, BLANK, CALL_SIGN, CLIENT_SIGN}
+use Rattle.pictures.specs.declared.style.TheConstants.{COLON, DONE}
 use Rattle.pictures.specs.declared.style.TheConstants.{FAULT_SIGN, NOT_ANSWERED, READS, WRITES}
 
 -- words that are left out where there is little room
@@ -41,9 +42,15 @@ fault_sign faulty = if faulty then FAULT_SIGN.now else []
 abbrev pub numbered_words : Bool → List ℕ → OpId → List ℕ
 numbered_words faulty before op = fault_sign faulty ++ before ++ decimal op.0
 
--- a call's number, the name of its key, and what it does
-abbrev pub begin_words : Bool → Bool → List ℕ → Call → List ℕ
-begin_words faulty briefly name call = numbered_words faulty CALL_SIGN.now call.op ++ BLANK.now
+-- a client's number and a blank, where it is said
+abbrev pub client_sign : Bool → ℕ → List ℕ
+client_sign shared client =
+    if shared then CLIENT_SIGN.now ++ decimal client ++ BLANK.now else []
+
+-- a call's number, its client in a shared column, the name of its key, and what it does
+abbrev pub begin_words : Bool → Bool → Bool → List ℕ → Call → List ℕ
+begin_words faulty shared briefly name call =
+    numbered_words faulty CALL_SIGN.now call.op ++ BLANK.now ++ client_sign shared call.client
     ++ name_words name ++ action_words briefly call.action
 
 -- what a response answers

@@ -1,10 +1,10 @@
 //! Linearization points, as dots.
-ghost use Rattle.std.specs.Prelude.{◌≡◌, ◌<◌, ◌++◌, length, OnOk};
+ghost use Rattle.std.specs.Prelude.{◌≡◌, ◌<◌, ◌++◌, length, slice_get, OnOk};
 ghost use Rattle.markup.specs.Markup.{rendered};
 ghost use Rattle.pictures.specs.Layout.{IsInOrder};
-ghost use Rattle.pictures.specs.Dots.{circle, dot_markup, lane_of};
+ghost use Rattle.pictures.specs.Dots.{circle, dot_column, dot_markup, lane_or_first};
 
-use crate::layout::{across, down, row_of_dot};
+use crate::layout::{across, column_of, down, row_of_dot};
 use crate::sizes::{DOT_LEFT, DOT_RADIUS, LINE_LETTERS, MIDDLE, NUMBER_LEFT, TEXT_BASE};
 use crate::style::{DOT, NUMBER};
 use labels::{IndexedShape, Spot, append_numbered};
@@ -20,14 +20,21 @@ pub(crate) struct Dots<'a> {
     pub(crate) scene: &'a Scene,
 }
 
-/// The lane of the dot's bar.
-pub(crate) fn lane_of(scene: &Scene, dot: &Dot) -> usize
-    ensures { result ≡ lane_of scene.now dot.now }
+/// The lane of the dot's bar; the first if there is none.
+fn lane_of(scene: &Scene, dot: &Dot) -> usize
+    ensures { result ≡ lane_or_first (slice_get scene.now.bars.items dot.now.bar) }
 {
     match scene.bars.get(dot.bar) {
         Some(bar) => bar.lane,
         None => 0,
     }
+}
+
+/// The column of the dot's bar.
+pub(crate) fn dot_column(scene: &Scene, dot: &Dot) -> usize
+    ensures { result ≡ dot_column scene.now dot.now }
+{
+    column_of(scene, lane_of(scene, dot))
 }
 
 /// Adds a circle at that place.
@@ -53,9 +60,13 @@ impl IndexedShape for Dots<'_> {
 
     fn append(&self, page: &mut Vec<u8>, index: usize, item: &Dot) -> Result<(), Memory> {
         let row = row_of_dot(self.scene, index, item.place);
-        let lane = lane_of(self.scene, item);
-        append_circle(page, across(self.scene, DOT_LEFT, lane), down(MIDDLE, row))?;
-        let x = across(self.scene, NUMBER_LEFT, lane);
+        let column = dot_column(self.scene, item);
+        append_circle(
+            page,
+            across(self.scene, DOT_LEFT, column),
+            down(MIDDLE, row),
+        )?;
+        let x = across(self.scene, NUMBER_LEFT, column);
         let spot = Spot::new(NUMBER, x, down(TEXT_BASE, row), LINE_LETTERS);
         append_numbered(self.alloc, page, &spot, "", item.number as u64)
     }

@@ -5,7 +5,7 @@ ghost use Rattle.labels.specs.Places.{IsNear, IsNearFrame};
 ghost use Rattle.pictures.specs.Layout.{IsInOrder};
 ghost use Rattle.pictures.specs.Frames.{bottom_of, corner_of, frame_of, open_corners, shape, shut_shape};
 
-use crate::layout::{across, column_width, down, row_of_place, rows_of};
+use crate::layout::{across, column_of, column_width, down, row_of_place, rows_of};
 use crate::sizes::{BAR_FOOT, BAR_LEFT, BAR_MARGINS, BAR_TOP, FLOOR, READ_CORNER, WRITE_CORNER};
 use crate::style::OPEN;
 use labels::{Frame, append_polyline};
@@ -33,9 +33,10 @@ fn frame_of(scene: &Scene, bar: &Bar) -> Frame
     ensures near { IsNearFrame result }
 {
     let width = column_width(scene) - BAR_MARGINS;
+    let column = column_of(scene, bar.lane);
     Frame {
-        left: across(scene, BAR_LEFT, bar.lane),
-        right: across(scene, BAR_LEFT + width, bar.lane),
+        left: across(scene, BAR_LEFT, column),
+        right: across(scene, BAR_LEFT + width, column),
         top: down(BAR_TOP, row_of_place(scene, bar.begins)),
         bottom: bottom_of(scene, bar.ends),
     }

@@ -1,17 +1,17 @@
-//! What bars stand on: a column for each lane, and a row for each tick.
+//! What bars stand on: columns, and a row for each tick and for each gap.
 ghost use Rattle.std.specs.Prelude.{◌≡◌, ◌<◌, ◌++◌, length, OnOk};
 ghost use Rattle.markup.specs.Markup.{rendered};
 ghost use Rattle.pictures.specs.Layout.{IsInOrder};
-ghost use Rattle.pictures.specs.Ground.{gap_markup, lane_markup, level_line, middle_of, tick_markup};
+ghost use Rattle.pictures.specs.Ground.{column_markup, gap_markup, level_line, middle_of, tick_markup};
 
 use crate::layout::{across, column_width, down, row_of_gap, row_of_place, rows_of};
 use crate::sizes::{COLUMN_LEFT, FLOOR, MIDDLE, ROW_TOP};
 use crate::style::{GAP, LANE, TICK};
 use labels::{IndexedShape, Shape, Way, append_line};
-use scenes::{Gap, Scene};
-use tag::{ClientId, Memory};
+use scenes::{Column, Gap, Scene};
+use tag::Memory;
 
-/// The lines in the middle of a scene's lanes.
+/// The lines in the middle of a scene's columns.
 #[derive(Clone, Copy)]
 pub(crate) struct Guides<'a> {
     pub(crate) scene: &'a Scene,
@@ -29,21 +29,21 @@ pub(crate) struct Gaps<'a> {
     pub(crate) scene: &'a Scene,
 }
 
-/// The middle of the lane's column.
-pub(crate) fn middle_of(scene: &Scene, lane: usize) -> u64
-    ensures { result ≡ middle_of scene.now lane }
+/// The middle of the column.
+pub(crate) fn middle_of(scene: &Scene, column: usize) -> u64
+    ensures { result ≡ middle_of scene.now column }
 {
-    across(scene, COLUMN_LEFT + column_width(scene) / 2, lane)
+    across(scene, COLUMN_LEFT + column_width(scene) / 2, column)
 }
 
 impl IndexedShape for Guides<'_> {
-    type Item = ClientId;
+    type Item = Column;
 
     ghost can_append = { λ guides index. Unit {0} };
 
-    ghost shape = { λ guides. lane_markup guides.scene.now };
+    ghost shape = { λ guides. column_markup guides.scene.now };
 
-    fn append(&self, page: &mut Vec<u8>, index: usize, _item: &ClientId) -> Result<(), Memory> {
+    fn append(&self, page: &mut Vec<u8>, index: usize, _item: &Column) -> Result<(), Memory> {
         let x = middle_of(self.scene, index);
         let bottom = down(FLOOR, rows_of(self.scene));
         append_line(page, LANE, Way::upright(x, ROW_TOP, bottom))
@@ -55,7 +55,7 @@ fn append_level(page: &mut Vec<u8>, scene: &Scene, class: &str, y: u64) -> Resul
     ensures { OnOk result
         (page.new.items ≡ page.old.items ++ rendered (level_line scene.now class.now y)) }
 {
-    let right = across(scene, COLUMN_LEFT, scene.lanes.len());
+    let right = across(scene, COLUMN_LEFT, scene.columns.len());
     append_line(page, class, Way::level(y, COLUMN_LEFT, right))
 }
 

@@ -1,17 +1,20 @@
 //! Laws of pictures, each the contract of a function that does nothing.
-ghost use Rattle.std.specs.Prelude.{ℕ, ◌≡◌, ◌<◌, ◌≤◌, ◌^◌, true, Some, length, slice_get};
+ghost use Rattle.std.specs.Prelude.{ℕ, ◌≡◌, ◌<◌, ◌≤◌, ◌^◌, ◌⊎◌, ◌++◌, List, [], ◌∷◌, true, Some};
+ghost use Rattle.std.specs.Prelude.{decimal, length, slice_get};
 ghost use Rattle.labels.specs.Places.{farthest};
 ghost use Rattle.labels.specs.Texts.{all_differ, none_is_empty};
 ghost use Rattle.scenes.specs.declared.scene.Bar.{Bar};
 ghost use Rattle.scenes.specs.declared.scene.Dot.{Dot};
 ghost use Rattle.scenes.specs.declared.scene.Scene.{Scene};
+ghost use Rattle.scenes.specs.Columns.{EndsBefore};
 ghost use Rattle.scenes.specs.Scenes.{IsPlaceIn};
 ghost use Rattle.pictures.specs.declared.sizes.TheConstants.{DOT_RADIUS, ROW};
 ghost use Rattle.pictures.specs.Dots.{dot_x, dot_y};
 ghost use Rattle.pictures.specs.Frames.{frame_of};
-ghost use Rattle.pictures.specs.Layout.{HasRowsInOrder, IsInOrder, across, column_width, down};
-ghost use Rattle.pictures.specs.Layout.{room_of};
-ghost use Rattle.pictures.specs.Readable.{HasCircle, HasTexts, IsWithinReach, call_phrases};
+ghost use Rattle.pictures.specs.declared.style.TheConstants.{CLIENT_WORD};
+ghost use Rattle.pictures.specs.Layout.{HasRowsInOrder, IsInOrder, across, column_of, column_width};
+ghost use Rattle.pictures.specs.Layout.{down, room_of};
+ghost use Rattle.pictures.specs.Readable.{HasCircle, HasTexts, HasTick, IsWithinReach, call_phrases};
 ghost use Rattle.pictures.specs.Readable.{class_names, headings, legend_words, other_words};
 ghost use Rattle.pictures.specs.Strips.{client_words};
 
@@ -29,14 +32,23 @@ pub fn rows_go_down()
 {}
 
 /// Columns stand from left to right, unless they are at the farthest place, and a bar ends before
-/// the bars of the next column begin.
+/// the bars of later columns begin.
 pub fn columns_go_right()
     ensures columns { (scene : Scene) (start i j : ℕ) → i < j → across scene start j < farthest
         → across scene start i < across scene start j }
-    ensures bars { (scene : Scene) (bar next : Bar) → bar.lane < next.lane
+    ensures bars { (scene : Scene) (bar next : Bar)
+        → column_of scene bar.lane < column_of scene next.lane
         → (frame_of scene next).left < farthest
         → (frame_of scene bar).right < (frame_of scene next).left }
     ensures width { (scene : Scene) → 0 < column_width scene }
+{}
+
+/// Of two bars of which one ends before the other begins the one stands above the other, unless this
+/// is at the farthest place: so bars of one column don't touch.
+pub fn bars_stand_one_below_another()
+    ensures { (scene : Scene) (bar next : Bar) → IsInOrder scene
+        → HasTick scene bar → EndsBefore bar next → (frame_of scene next).top < farthest
+        → (frame_of scene bar).bottom < (frame_of scene next).top }
 {}
 
 /// The dot of a place within its bar stands on the bar: its whole circle lies within the bar's frame,
@@ -56,11 +68,15 @@ pub fn texts_keep_to_their_bar()
         → HasTexts scene bar }
 {}
 
-/// A client is named whole, by its number alone if there is no room for more: its name has no more
-/// letters than its column has room for.
-pub fn a_client_is_named_whole()
-    ensures { (scene : Scene) (client : ℕ) → client < 2 ^ 32
-        → length (client_words scene client) ≤ room_of scene }
+/// A client is named whole, by its number alone if there is no room for more; of several clients in
+/// a column their count is whole, up to 99. So a head has no more letters than its column has room
+/// for.
+pub fn clients_are_named_whole()
+    ensures one { (scene : Scene) (client : ℕ) → client < 2 ^ 32
+        → (client_words scene (client ∷ []) ≡ CLIENT_WORD.now ++ decimal client)
+        ⊎ (client_words scene (client ∷ []) ≡ decimal client) }
+    ensures whole { (scene : Scene) (clients : List ℕ) → length clients < 100
+        → length (client_words scene clients) ≤ room_of scene }
 {}
 
 /// No two classes have one name, and so it is with what a legend and a table say; and nothing is

@@ -2,8 +2,8 @@
 ghost use Rattle.std.specs.Prelude.{◌≡◌, ◌<◌, ◌≤◌, length, map};
 ghost use Rattle.std.specs.List.Sorted.{IsNonDecreasing, IsStrictlyIncreasing};
 ghost use Rattle.labels.specs.Places.{IsNear};
-ghost use Rattle.pictures.specs.Layout.{IsInOrder, across, column_width, dots_before, down};
-ghost use Rattle.pictures.specs.Layout.{gaps_up_to, room_of, row_of_dot, row_of_gap, row_of_place};
+ghost use Rattle.pictures.specs.Layout.{IsInOrder, across, column_of, column_width, dots_before, down};
+ghost use Rattle.pictures.specs.Layout.{gaps_up_to, is_shared, room_of, row_of_dot, row_of_gap, row_of_place};
 ghost use Rattle.pictures.specs.Layout.{rows_of, ticks_before, ticks_up_to};
 
 use crate::sizes::{COLUMNS, LETTER, MARGINS, NARROWEST, ROW, WIDEST};
@@ -22,16 +22,36 @@ pub(crate) fn down(start: u64, row: usize) -> u64
 pub(crate) fn column_width(scene: &Scene) -> u64
     ensures { result ≡ column_width scene.now }
 {
-    let lanes = scene.lanes.len().max(1) as u64;
-    (COLUMNS / lanes).min(WIDEST).max(NARROWEST)
+    let columns = scene.columns.len().max(1) as u64;
+    (COLUMNS / columns).min(WIDEST).max(NARROWEST)
 }
 
-/// So far right in that lane's column, from the first one.
-pub(crate) fn across(scene: &Scene, start: u64, lane: usize) -> u64
-    ensures across { result ≡ across scene.now start lane }
+/// So far right in that column, from the first one.
+pub(crate) fn across(scene: &Scene, start: u64, column: usize) -> u64
+    ensures across { result ≡ across scene.now start column }
     ensures near { IsNear result }
 {
-    pixels(start, lane, column_width(scene))
+    pixels(start, column, column_width(scene))
+}
+
+/// The column of that lane; the first if there is none.
+pub(crate) fn column_of(scene: &Scene, lane: usize) -> usize
+    ensures { result ≡ column_of scene.now lane }
+{
+    match scene.lane_columns.get(lane) {
+        Some(column) => *column,
+        None => 0,
+    }
+}
+
+/// Whether several lanes stand in that column.
+pub(crate) fn is_shared(scene: &Scene, column: usize) -> bool
+    ensures { result ≡ is_shared scene.now column }
+{
+    match scene.columns.get(column) {
+        Some(column) => column.clients.len() > 1,
+        None => false,
+    }
 }
 
 /// How many letters a column holds.

@@ -1,6 +1,6 @@
 //! The picture of the calls on one key, or on all, as SVG in a page, and the table of the same calls.
 //!
-//! Time goes down: each client has a column, each place at which a shown call begins, is noted or
+//! Time goes down: clients stand in columns, each place at which a shown call begins, is noted or
 //! is answered has a row, and each linearization point and each mark of calls that are left out has a row
 //! of its own, so that no words stand over others. The page is of the scene: each function adds exactly the bytes of a tree of
 //! elements that a definition makes of the scene and the calls. Its sizes, words and names of classes

@@ -4,7 +4,7 @@ ghost use Rattle.markup.specs.Markup.{rendered};
 ghost use Rattle.pictures.specs.Layout.{IsInOrder};
 ghost use Rattle.pictures.specs.Dots.{corner, corners, path_markup};
 
-use crate::dots::lane_of;
+use crate::dots::dot_column;
 use crate::layout::{across, down, row_of_dot};
 use crate::sizes::{DOT_LEFT, MIDDLE};
 use crate::style::PATH;
@@ -20,7 +20,7 @@ fn add_corner(all: &mut Vec<u64>, scene: &Scene, index: usize, dot: &Dot) -> Res
     ensures { OnOk result (all.new.items ≡ all.old.items ++ corner scene.now index dot.now) }
 {
     let row = row_of_dot(scene, index, dot.place);
-    all.push(across(scene, DOT_LEFT, lane_of(scene, dot)) * 10)?;
+    all.push(across(scene, DOT_LEFT, dot_column(scene, dot)) * 10)?;
     all.push(down(MIDDLE, row) * 10)?;
     Ok(())
 }

@@ -85,19 +85,19 @@ fn append_foot(alloc: Global, page: &mut Vec<u8>, scene: &Scene) -> Result<(), M
     let rows = rows_of(scene);
     if rows > LONG {
         let y = down(FOOT_BASE, rows);
-        append_each_indexed(page, &Names { alloc, scene, y }, &scene.lanes)
+        append_each_indexed(page, &Names { alloc, scene, y }, &scene.columns)
     } else {
         Ok(())
     }
 }
 
-/// Adds the lines of the lanes, the ticks and the gaps, and below them, if they are many, the names.
+/// Adds the lines of the columns, the ticks and the gaps, and below them, if they are many, the names.
 fn append_ground(alloc: Global, page: &mut Vec<u8>, scene: &Scene) -> Result<(), Memory>
     requires { IsInOrder scene.now }
     ensures { OnOk result (page.new.items ≡ page.old.items ++ rendered (ground scene.now)) }
 {
     append_foot(alloc, page, scene)?;
-    append_each_indexed(page, &Guides { scene }, &scene.lanes)?;
+    append_each_indexed(page, &Guides { scene }, &scene.columns)?;
     append_each(page, &Ticks { scene }, &scene.ticks)?;
     append_each_indexed(page, &Gaps { scene }, &scene.gaps)
 }
@@ -119,7 +119,7 @@ fn open_svg(page: &mut Vec<u8>, scene: &Scene) -> Result<(), Memory>
     ensures { OnOk result (page.new.items
         ≡ page.old.items ++ opening_tag tag.Svg (svg_attributes scene.now)) }
 {
-    let width = across(scene, RIGHT, scene.lanes.len());
+    let width = across(scene, RIGHT, scene.columns.len());
     open_image(page, width, down(BOTTOM, rows_of(scene)))
 }
 

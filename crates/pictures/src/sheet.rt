@@ -68,7 +68,8 @@ details::details-content{display:block;height:auto;content-visibility:visible}}"
 /// What the legend says after its samples.
 pub(crate) const LEGEND_WORDS: &str =
     " Time goes down; each client has a column, and each call a bar from the line of the history \
-where it begins to the line where it is answered. At its end a bar says what the call answers.";
+where it begins to the line where it is answered. Of more than 16 clients some share a column; then \
+c7 in a bar is its client. At its end a bar says what the call answers.";
 
 /// What it says of tags.
 pub(crate) const LEGEND_TAGS: &str =

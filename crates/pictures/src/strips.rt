@@ -1,11 +1,14 @@
 //! What stays in sight while a picture scrolls: a strip with the clients' names, and one with lines.
-ghost use Rattle.std.specs.Prelude.{◌≡◌, ◌<◌, ◌++◌, length, IfOk, OnOk};
+ghost use Rattle.std.specs.Prelude.{◌≡◌, ◌<◌, ◌++◌, [], decimal, length, IfOk, OnOk};
 ghost use Rattle.markup.specs.Markup.{opening_tag, rendered};
 ghost use Rattle.markup.specs.declared.names.Element.TheVariants as tag;
 ghost use Rattle.labels.specs.Places.{IsNear};
 ghost use Rattle.pictures.specs.Layout.{IsInOrder};
-ghost use Rattle.pictures.specs.Strips.{client_name, client_words, gap_name, gap_words, line_name};
-ghost use Rattle.pictures.specs.Strips.{lines_strip, names_strip, strip_attributes};
+ghost use Rattle.pictures.specs.Words.{fitted};
+ghost use Rattle.pictures.specs.declared.style.TheConstants.{OF_CLIENTS};
+ghost use Rattle.pictures.specs.Strips.{client_name, client_word, client_words, gap_name, gap_words};
+ghost use Rattle.pictures.specs.Strips.{line_name, lines_strip, names_strip, numbers_after};
+ghost use Rattle.pictures.specs.Strips.{strip_attributes, word_at};
 
 use crate::ground::middle_of;
 use crate::layout::{across, down, room_of, row_of_gap, row_of_place, rows_of};
@@ -13,20 +16,20 @@ use crate::sizes::{
     BOTTOM, COLUMN_LEFT, LINE_LETTERS, LINE_RIGHT, NAMES_BASE, RIGHT, ROW_TOP, TEXT_BASE,
 };
 use crate::style::{
-    CLIENT, CLIENT_WORD, GAP_CALL, GAP_CALLS, GAP_SIGN, HIDDEN, LINE, LINE_WORD, LINES, NAMES,
-    OMITTED,
+    CLIENT, CLIENT_WORD, CLIENTS_WORD, COMMA, GAP_CALL, GAP_CALLS, GAP_SIGN, HIDDEN, LINE,
+    LINE_WORD, LINES, NAMES, OF_CLIENTS, OMITTED,
 };
 use explanations::HallRows;
 use labels::{
     IndexedShape, Shape, Spot, append_each, append_each_indexed, append_label, append_numbered,
 };
 use markup::{Attribute, AttributeName, Element, append_closing, append_opening};
-use scenes::{Gap, Scene};
+use scenes::{Column, Gap, Scene};
 use sentences::{append, append_number};
 use std::alloc::Global;
 use tag::{ClientId, Memory};
 
-/// The names of the clients of a scene's lanes, at that height.
+/// The names of the clients of a scene's columns, at that height.
 #[derive(Clone, Copy)]
 pub(crate) struct Names<'a> {
     pub(crate) alloc: Global,
@@ -49,32 +52,86 @@ struct Omissions<'a> {
     scene: &'a Scene,
 }
 
-/// What a client is called: by its number alone if there is no room for more.
-fn client_words(alloc: Global, scene: &Scene, client: ClientId) -> Result<Vec<u8>, Memory>
-    ensures { IfOk result (λ words. words.items ≡ client_words scene.now client) }
+/// The word before the numbers of these clients.
+fn client_word(clients: &[ClientId]) -> &'static str
+    ensures { result.now ≡ client_word clients.now }
 {
-    let number = u64::from(client.get());
+    if clients.len() == 1 {
+        CLIENT_WORD
+    } else {
+        CLIENTS_WORD
+    }
+}
+
+/// What stands before the number of that index: before the first the words, before others a comma.
+fn word_at(words: &str, index: usize) -> &str
+    ensures { result.now ≡ word_at words.now index }
+{
+    if index == 0 { words } else { COMMA }
+}
+
+/// Adds the number of the client of that index, after what stands before it.
+fn say_client(
+    words: &mut Vec<u8>,
+    before: &str,
+    index: usize,
+    client: &ClientId,
+) -> Result<(), Memory>
+    ensures { OnOk result (words.new.items
+        ≡ words.old.items ++ (word_at before.now index ++ decimal client.now)) }
+{
+    append_number(words, word_at(before, index), u64::from(client.get()))
+}
+
+/// The numbers of the clients, with commas between them, after those words.
+fn numbers_after(alloc: Global, before: &str, clients: &[ClientId]) -> Result<Vec<u8>, Memory>
+    ensures { IfOk result (λ words. words.items ≡ numbers_after before.now clients.now) }
+{
     let mut words = Vec::new(alloc);
-    append_number(&mut words, CLIENT_WORD, number)?;
+    for (index, client) in clients.iter().enumerate() {
+        say_client(&mut words, before, index, client)?;
+    }
+    Ok(words)
+}
+
+/// The numbers of the clients alone, or, if there is no room for them, how many they are.
+fn brief_words(alloc: Global, room: u64, clients: &[ClientId]) -> Result<Vec<u8>, Memory>
+    ensures { IfOk result (λ words. words.items ≡ fitted room (numbers_after [] clients.now)
+        (decimal (length clients.now) ++ OF_CLIENTS.now)) }
+{
+    let words = numbers_after(alloc, "", clients)?;
+    if words.len() as u64 <= room {
+        return Ok(words);
+    }
+    let mut count = Vec::new(alloc);
+    append_number(&mut count, "", clients.len() as u64)?;
+    append(&mut count, OF_CLIENTS)?;
+    Ok(count)
+}
+
+/// What clients are called: by their numbers alone if there is no room for more, or else by how many
+/// they are.
+fn client_words(alloc: Global, scene: &Scene, clients: &[ClientId]) -> Result<Vec<u8>, Memory>
+    ensures { IfOk result (λ words. words.items ≡ client_words scene.now clients.now) }
+{
+    let words = numbers_after(alloc, client_word(clients), clients)?;
     if words.len() as u64 <= room_of(scene) {
         return Ok(words);
     }
-    let mut brief = Vec::new(alloc);
-    append_number(&mut brief, "", number)?;
-    Ok(brief)
+    brief_words(alloc, room_of(scene), clients)
 }
 
 impl IndexedShape for Names<'_> {
-    type Item = ClientId;
+    type Item = Column;
 
     ghost can_append = { λ names index. Unit {0} };
 
     ghost shape = { λ names. client_name names.scene.now names.y };
 
-    fn append(&self, page: &mut Vec<u8>, index: usize, item: &ClientId) -> Result<(), Memory> {
+    fn append(&self, page: &mut Vec<u8>, index: usize, item: &Column) -> Result<(), Memory> {
         let x = middle_of(self.scene, index);
         let spot = Spot::new(CLIENT, x, self.y, room_of(self.scene));
-        let words = client_words(self.alloc, self.scene, *item)?;
+        let words = client_words(self.alloc, self.scene, &item.clients)?;
         append_label(self.alloc, page, &spot, &words)
     }
 }
@@ -147,10 +204,10 @@ pub(crate) fn append_names(alloc: Global, page: &mut Vec<u8>, scene: &Scene) -> 
     open_strip(
         page,
         NAMES,
-        across(scene, RIGHT, scene.lanes.len()),
+        across(scene, RIGHT, scene.columns.len()),
         ROW_TOP,
     )?;
-    append_each_indexed(page, &Names { alloc, scene, y }, &scene.lanes)?;
+    append_each_indexed(page, &Names { alloc, scene, y }, &scene.columns)?;
     append_closing(page, Element::Svg)
 }
 

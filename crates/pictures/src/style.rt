@@ -56,6 +56,14 @@ pub(crate) const ALL_KEYS: &str = "all keys";
 
 pub(crate) const CLIENT_WORD: &str = "client ";
 
+pub(crate) const CLIENTS_WORD: &str = "clients ";
+
+pub(crate) const OF_CLIENTS: &str = " clients";
+
+pub(crate) const COMMA: &str = ", ";
+
+pub(crate) const CLIENT_SIGN: &str = "c";
+
 pub(crate) const LINE_WORD: &str = "line ";
 
 pub(crate) const CALL_SIGN: &str = "#";

@@ -5,7 +5,7 @@ ghost use Rattle.pictures.specs.Layout.{IsInOrder};
 ghost use Rattle.pictures.specs.Texts.{fitted_words, if_any, text_at, text_class, text_words};
 ghost use Rattle.pictures.specs.Texts.{texts};
 
-use crate::layout::{across, down, room_of, row_of_place};
+use crate::layout::{across, column_of, down, is_shared, room_of, row_of_place};
 use crate::sizes::{TEXT_BASE, TEXT_LEFT};
 use crate::style::{ANSWERS, DOES, NOTED, NOTES};
 use crate::words::{say_begin, say_end, say_note, say_unless};
@@ -42,15 +42,16 @@ fn say_text(
     words: &mut Vec<u8>,
     text: BarText,
     faulty: bool,
+    shared: bool,
     briefly: bool,
     name: &str,
     call: &Call<'_>,
 ) -> Result<(), Memory>
-    ensures { OnOk result
-        (words.new.items ≡ words.old.items ++ text_words text faulty briefly name.now call.now) }
+    ensures { OnOk result (words.new.items
+        ≡ words.old.items ++ text_words text faulty shared briefly name.now call.now) }
 {
     match text {
-        BarText::Begin => say_begin(words, name, call, faulty, briefly),
+        BarText::Begin => say_begin(words, name, call, faulty, shared, briefly),
         BarText::Note => {
             say_unless(words, briefly, NOTES)?;
             say_note(words, call.note)
@@ -65,19 +66,20 @@ fn fitted_words(
     room: u64,
     text: BarText,
     faulty: bool,
+    shared: bool,
     name: &str,
     call: &Call<'_>,
 ) -> Result<Vec<u8>, Memory>
     ensures { IfOk result
-        (λ words. words.items ≡ fitted_words room text faulty name.now call.now) }
+        (λ words. words.items ≡ fitted_words room text faulty shared name.now call.now) }
 {
     let mut words = Vec::new(alloc);
-    say_text(&mut words, text, faulty, false, name, call)?;
+    say_text(&mut words, text, faulty, shared, false, name, call)?;
     if words.len() as u64 <= room {
         return Ok(words);
     }
     let mut brief = Vec::new(alloc);
-    say_text(&mut brief, text, faulty, true, name, call)?;
+    say_text(&mut brief, text, faulty, shared, true, name, call)?;
     Ok(brief)
 }
 
@@ -96,25 +98,26 @@ impl BarTexts<'_> {
     fn append_text(
         &self,
         page: &mut Vec<u8>,
-        lane: usize,
+        column: usize,
         call: &Call<'_>,
         text: BarText,
         place: Option<usize>,
     ) -> Result<(), Memory>
         requires { IsInOrder self.now.scene.now }
         ensures { OnOk result (page.new.items ≡ page.old.items
-            ++ rendered (if_any (text_at self.now.scene.now text lane self.now.faulty
+            ++ rendered (if_any (text_at self.now.scene.now text column self.now.faulty
             self.now.name.now call.now) place)) }
     {
         let Some(place) = place else {
             return Ok(());
         };
         let (scene, alloc) = (self.scene, self.alloc);
-        let x = across(scene, TEXT_LEFT, lane);
+        let x = across(scene, TEXT_LEFT, column);
         let y = down(TEXT_BASE, row_of_place(scene, place));
         let room = room_of(scene);
         let spot = Spot::new(text_class(text), x, y, room);
-        let words = fitted_words(alloc, room, text, self.faulty, self.name, call)?;
+        let shared = is_shared(scene, column);
+        let words = fitted_words(alloc, room, text, self.faulty, shared, self.name, call)?;
         append_label(alloc, page, &spot, &words)
     }
 
@@ -129,8 +132,9 @@ impl BarTexts<'_> {
         ensures { OnOk result (page.new.items ≡ page.old.items ++ rendered
             (texts self.now.scene.now bar.now self.now.faulty self.now.name.now call.now)) }
     {
-        self.append_text(page, bar.lane, call, BarText::Begin, Some(bar.begins))?;
-        self.append_text(page, bar.lane, call, BarText::Note, bar.note)?;
-        self.append_text(page, bar.lane, call, BarText::Answer, bar.ends)
+        let column = column_of(self.scene, bar.lane);
+        self.append_text(page, column, call, BarText::Begin, Some(bar.begins))?;
+        self.append_text(page, column, call, BarText::Note, bar.note)?;
+        self.append_text(page, column, call, BarText::Answer, bar.ends)
     }
 }

@@ -1,16 +1,16 @@
 //! What is said of a call, in few words.
 ghost use Rattle.std.specs.Prelude.{◌≡◌, ◌++◌, OnOk};
-ghost use Rattle.pictures.specs.Words.{action_words, begin_words, end_words, fault_sign};
+ghost use Rattle.pictures.specs.Words.{action_words, begin_words, client_sign, end_words, fault_sign};
 ghost use Rattle.pictures.specs.Words.{is_written, line_words, name_words, note_words};
 ghost use Rattle.pictures.specs.Words.{numbered_words, response_words, returned_words, unless};
 
 use crate::style::{
-    ANSWER, BLANK, CALL_SIGN, COLON, DONE, FAULT_SIGN, NOT_ANSWERED, READS, WRITES,
+    ANSWER, BLANK, CALL_SIGN, CLIENT_SIGN, COLON, DONE, FAULT_SIGN, NOT_ANSWERED, READS, WRITES,
 };
 use explanations::{HallRows, append_value};
 use recorder::{ActionRef, Call, Response, ReturnedRef};
 use sentences::{append, append_number, append_tag};
-use tag::{Memory, OpId, Tag};
+use tag::{ClientId, Memory, OpId, Tag};
 
 /// Adds the words where there is room for them.
 pub(crate) fn say_unless(words: &mut Vec<u8>, briefly: bool, more: &str) -> Result<(), Memory>
@@ -72,19 +72,33 @@ pub(crate) fn say_number(
     append_number(words, before, u64::from(op.0))
 }
 
-/// Adds the call's number, the name of its key, and what it does.
+/// Adds the client's number and a blank, where it is to be said.
+fn say_client(words: &mut Vec<u8>, client: ClientId, shared: bool) -> Result<(), Memory>
+    ensures { OnOk result (words.new.items ≡ words.old.items ++ client_sign shared client) }
+{
+    if shared {
+        append_number(words, CLIENT_SIGN, u64::from(client.get()))?;
+        append(words, BLANK)
+    } else {
+        Ok(())
+    }
+}
+
+/// Adds the call's number, its client in a shared column, the name of its key, and what it does.
 pub(crate) fn say_begin(
     words: &mut Vec<u8>,
     name: &str,
     call: &Call<'_>,
     faulty: bool,
+    shared: bool,
     briefly: bool,
 ) -> Result<(), Memory>
-    ensures { OnOk result
-        (words.new.items ≡ words.old.items ++ begin_words faulty briefly name.now call.now) }
+    ensures { OnOk result (words.new.items
+        ≡ words.old.items ++ begin_words faulty shared briefly name.now call.now) }
 {
     say_number(words, CALL_SIGN, call.op, faulty)?;
     append(words, BLANK)?;
+    say_client(words, call.client, shared)?;
     say_name(words, name)?;
     say_action(words, &call.action, briefly)
 }

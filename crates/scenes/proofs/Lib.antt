@@ -5,3 +5,7 @@ pub mod OrderDots
 pub mod Around
 pub mod Overlaps
 pub mod LeftOut
+pub mod FirstFits
+pub mod ColumnClients
+pub mod InLanes
+pub mod Apart

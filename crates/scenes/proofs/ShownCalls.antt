@@ -55,7 +55,7 @@ zip_more {A} {B} R xs ys now i x y at more before holds =
     (subst (λ (l : List B). AllZip R (take i xs ++ x ∷ []) l) (sym more) (all_zipped_more R (take i xs) ys x y before holds))
 
 -- what stands in the second list stands beside an element of the first
-zip_back : {A B : Type 0} (R : A → B → Type 0) (xs : List A) (ys : List B) (k : ℕ) (y : B) → AllZip R xs ys → slice_get ys k ≡ Some y
+pub zip_back : {A B : Type 0} (R : A → B → Type 0) (xs : List A) (ys : List B) (k : ℕ) (y : B) → AllZip R xs ys → slice_get ys k ≡ Some y
     → (x : A) × (slice_get xs k ≡ Some x) × R x y
 zip_back R [] [] k y zipped at = none_some at
 zip_back R [] (z ∷ ys) k y zipped at = absurd zipped
@@ -77,7 +77,7 @@ bars_rise part shown rows lanes bars sequence selection are = rises_mapped (λ (
     omega (arith, numbers, number_a, number_b))
 
 -- the response whose place is the end of a bar
-end_there : (response : Option Response) (end : ℕ) → option_map (λ (r : Response). r.place) response ≡ Some end
+pub end_there : (response : Option Response) (end : ℕ) → option_map (λ (r : Response). r.place) response ≡ Some end
     → (r : Response) × (response ≡ Some r) × (r.place ≡ end)
 end_there None end is = none_some is
 end_there (Some r) end is = (r, refl, same_Some r.place end is)

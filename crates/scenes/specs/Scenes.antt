@@ -1,5 +1,5 @@
 -- What a picture of a key's calls shows: a lane for each client, in it a bar for each call, and on
--- the bars the linearization points of an order as dots.
+-- the bars the linearization points of an order as dots. Lanes stand in columns.
 use Rattle.std.specs.Prelude.{ℕ, ◌≡◌, ◌<◌, ◌≤◌, ◌↔◌, List, [], ◌∷◌, ◌++◌, Some}
 use Rattle.std.specs.Prelude.{length, map, slice_get, Contains}
 use Rattle.std.specs.List.{AllZip}
@@ -8,10 +8,12 @@ use Rattle.std.specs.Option.{option_map, option_to_list}
 use Rattle.tag.specs.declared.numbers.OpId.{OpId}
 use Rattle.recorder.specs.declared.row.Row.{Row}
 use Rattle.recorder.specs.declared.part.Call.{Call}
+use Rattle.recorder.specs.Records.{IsRecorded}
 use Rattle.reasons.specs.Notes.{note_place}
 use Rattle.scenes.specs.declared.scene.Bar.{Bar}
 use Rattle.scenes.specs.declared.scene.Dot.{Dot}
 use Rattle.scenes.specs.declared.scene.Scene.{Scene}
+use Rattle.scenes.specs.Columns.{AreColumnsOf, AreLaneColumns}
 use Rattle.scenes.specs.Gaps.{AreGaps}
 
 -- the list has just the numbers with the property, each once, in rising order
@@ -39,6 +41,11 @@ pub record IsBarOf (rows : List Row) (lanes : List ℕ) (call : Call) (bar : Bar
   pub begins : bar.begins ≡ call.invoked
   pub ends : bar.ends ≡ option_map (λ response. response.place) call.response
   pub note : bar.note ≡ note_place rows call
+
+-- each of the calls is what the rows record of it
+abbrev pub AreRecorded : List Row → List Call → Type 0
+AreRecorded rows part =
+    (call : Call) → Contains part call → (key : List ℕ) × IsRecorded rows key call
 
 module _ (order : List OpId) (points : List ℕ) (bars : List Bar) where
   -- the dot of a place of the order: on the bar of the call that is listed there, at its point
@@ -69,11 +76,15 @@ module _ (part : List Call) (shown : List ℕ) where
       × IsBarOf rows lanes call bar) shown bars
 
   -- the scene of the shown calls and of an order with its points: their clients as lanes, their
-  -- bars, the places of the bars as ticks, the dots, and the calls that aren't shown
+  -- bars, the columns of the lanes, the places of the bars as ticks, the dots, and the calls that
+  -- aren't shown
   pub record IsSceneOf (rows : List Row) (order : List OpId) (points : List ℕ) (scene : Scene)
       : Type 0 where
     pub lanes : IsRisingListOf HasCallOf scene.lanes.items
     pub bars : AreBarsOf rows scene.lanes.items scene.bars.items
+    pub lane_columns : AreLaneColumns scene.bars.items (length scene.lanes.items)
+        scene.lane_columns.items
+    pub columns : AreColumnsOf scene.lanes.items scene.lane_columns.items scene.columns.items
     pub ticks : IsRisingListOf (HasPlace scene.bars.items) scene.ticks.items
     pub dots : AreDotsOf order points scene.bars.items scene.dots.items
     pub gaps : AreGaps part shown scene.gaps.items

@@ -3,6 +3,7 @@ ghost use Rattle.std.specs.Prelude.{IfOk};
 ghost use Rattle.scenes.specs.Scenes.{IsSceneOf, IsSelection};
 
 use crate::bars::bars_of;
+use crate::columns::{Column, LaneColumns, columns_of, lane_columns};
 use crate::dots::dots_of;
 use crate::gaps::{Gap, gaps_of};
 use crate::lanes::lanes_of;
@@ -43,6 +44,11 @@ pub struct Scene {
     pub lanes: Vec<ClientId>,
     /// A bar for each call, in the order of the calls.
     pub bars: Vec<Bar>,
+    /// The index of each lane's column. Up to 16 lanes have a column each; of more, lanes share
+    /// columns whose calls don't overlap.
+    pub lane_columns: Vec<usize>,
+    /// The columns.
+    pub columns: Vec<Column>,
     /// The places at which a bar begins, ends or has its note, in rising order.
     pub ticks: Vec<usize>,
     /// The points of the calls that the order lists, in the order's order.
@@ -55,8 +61,8 @@ pub struct Scene {
 /// its points. For a picture without points give an empty order.
 ///
 /// It takes time in proportion to the shown calls and the order, times the logarithm of the shown
-/// calls' count, and to the rows between each shown call and its note; `Memory` comes only where an
-/// allocation was refused.
+/// calls' count, to the rows between each shown call and its note, and to the lanes times the columns;
+/// `Memory` comes only where an allocation was refused.
 pub fn scene_of(
     alloc: Global,
     history: &History,
@@ -72,12 +78,16 @@ pub fn scene_of(
     let _sequence = part.len();
     let lanes = lanes_of(alloc, part, shown)?;
     let bars = bars_of(alloc, history, part, shown, &lanes)?;
+    let LaneColumns { of_lanes, count } = lane_columns(alloc, lanes.len(), &bars)?;
+    let columns = columns_of(alloc, &lanes, &of_lanes, count)?;
     let ticks = ticks_of(alloc, &bars)?;
     let dots = dots_of(alloc, &bars, order, points)?;
     let gaps = gaps_of(alloc, part, shown)?;
     Ok(Scene {
         lanes,
         bars,
+        lane_columns: of_lanes,
+        columns,
         ticks,
         dots,
         gaps,

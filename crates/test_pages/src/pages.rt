@@ -47,6 +47,11 @@ fn is_of_key(tag: Tag<'_>) -> bool {
     is_key(tag) || tag.value("scope") == "row" || tag.is("td", "count")
 }
 
+/// Whether the tag is a link to a bar that stands in a sentence; in a cell a link is the cell.
+fn is_said(tag: Tag<'_>, in_cell: bool) -> bool {
+    !in_cell && tag.value("href").starts_with("#call-")
+}
+
 /// Says the words of a link in a sentence, and its place.
 fn say_link(out: &mut Answer, tag: Tag<'_>) {
     say_text(out, tag.text);
@@ -54,12 +59,12 @@ fn say_link(out: &mut Answer, tag: Tag<'_>) {
     write!(out, "[{place}]");
 }
 
-/// Says what the tag shows.
-fn say_tag(out: &mut Answer, extent: Extent, tag: Tag<'_>) {
+/// Says what the tag shows, which comes right after the begin of a cell or doesn't.
+fn say_tag(out: &mut Answer, extent: Extent, tag: Tag<'_>, in_cell: bool) {
     match tag.name {
         "h2" => say_line(out, "heading 2", tag.text),
         "p" if !tag.text.is_empty() => say_line(out, tag.class(), tag.text.trim_start()),
-        "a" if tag.value("href").starts_with("#call-") => say_link(out, tag),
+        "a" if is_said(tag, in_cell) => say_link(out, tag),
         "/a" => say_text(out, tag.text),
         "a" => {
             say_cell(out, tag.text);
@@ -72,14 +77,18 @@ fn say_tag(out: &mut Answer, extent: Extent, tag: Tag<'_>) {
 
 /// Says what stands outside of pictures.
 fn say_tags(out: &mut Answer, extent: Extent, text: &str) {
+    let mut in_cell = false;
     for piece in text.split('<') {
-        say_tag(out, extent, Tag::read(piece));
+        let tag = Tag::read(piece);
+        say_tag(out, extent, tag, in_cell);
+        in_cell = tag.name == "th";
     }
 }
 
 /// Says only the paragraphs of the page, and how many keys its table has.
 pub fn say_sums(out: &mut Answer, page: &str) {
     let mut rows = 0u64;
+    let mut in_cell = false;
     for piece in page.split('<') {
         let tag = Tag::read(piece);
         if is_key(tag) {
@@ -87,10 +96,11 @@ pub fn say_sums(out: &mut Answer, page: &str) {
         }
         match tag.name {
             "p" if !tag.text.is_empty() => say_line(out, tag.class(), tag.text.trim_start()),
-            "a" if tag.value("href").starts_with("#call-") => say_link(out, tag),
+            "a" if is_said(tag, in_cell) => say_link(out, tag),
             "/a" => say_text(out, tag.text),
             _ => {}
         }
+        in_cell = tag.name == "th";
     }
     write!(out, "\nrows: {rows}\n");
 }
