@@ -1,0 +1,15 @@
+mod Rows
+mod PieceRows
+mod Formed
+mod Parts
+mod Orders
+mod FirstSeen
+mod Stepping
+mod Dealt
+mod Keys
+mod OneList
+mod OneKeys
+mod Calls
+mod Taking
+mod Nothing
+mod Splitting

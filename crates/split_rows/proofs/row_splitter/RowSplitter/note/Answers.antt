@@ -1,0 +1,43 @@
+use Rattle.std.proofs.Common.{◌≢◌, Result, IfErr, refl, subst, sym, ◌∙◌}
+use Rattle.std.proofs.lemmas.Option.{none-some}
+use Rattle.std.proofs.lemmas.Result.{err_from_is_err_and}
+use Rattle.recorder.specs.declared.row.Row.TheVariants.{Note}
+use Rattle.tag.specs.Tags.{least}
+use Rattle.open_calls.specs.declared.refusal.CallRefusal.{CallRefusal}
+use Rattle.open_calls.specs.declared.refusal.CallRefusal.TheVariants.{Memory}
+use Rattle.split_rows.specs.declared.moved.Moved.{Moved}
+use Rattle.split_rows.specs.Splits.{HasSplit, left_of}
+use Rattle.split_rows.proofs.Splitting.{carried, some_by, splits_by}
+use Rattle.split_rows.proofs.row_splitter.RowSplitter.note.Goals as goal
+
+pub keep-requires : goal.keep-requires
+keep-requires c =
+    let k = c.in_ok-taken.ensures.kept.0 in
+    some_by c.in_ok-taken.taken c.note-answer.new.self k (Note c.args.op least) c.note-answer.result
+    (c.note-answer.ensures.row k.parts k.rows k.pieces least k.formed k.keeps)
+
+pub returns-clause-row : goal.returns-clause-row
+returns-clause-row c = λ parts rows pieces tag formed h.
+    let row = Note c.args.op tag in
+    let taken = c.in_ok-taken.taken in
+    let new = c.note-answer.new.self in
+    let answer = c.note-answer.result in
+    let k = subst (HasSplit parts rows pieces) c.in_ok-taken.ensures.kept.1 h in
+    carried parts rows pieces row c.args.self.now c.keep.new.self (left_of new answer) taken answer c.keep.result
+    c.in_ok-taken.ensures.kept.1 c.keep.ensures.answer c.keep.ensures.kept
+    (splits_by parts rows pieces taken new row answer (c.note-answer.ensures.row parts rows pieces tag formed k))
+
+pub returns-in_err-taken-clause-lost : goal.returns-in_err-taken-clause-lost
+returns-in_err-taken-clause-lost c = λ lost.
+    let p = err_from_is_err_and c.from_residual.result c.from_residual.ensures.1 in
+    rw (p.1, p.2) (refl, c.take.ensures.left)
+
+pub returns-clause-lost : goal.returns-clause-lost
+returns-clause-lost c = λ lost. absurd (none-some c.in_ok-taken.taken (sym lost ∙ c.in_ok-taken.ensures.kept.1))
+
+pub returns-in_err-taken-clause-free : goal.returns-in_err-taken-clause-free
+returns-in_err-taken-clause-free c = λ kept. absurd (kept c.in_err-taken.ensures.lost)
+
+pub returns-clause-free : goal.returns-clause-free
+returns-clause-free c = λ kept. subst (λ (r : Result Moved CallRefusal). IfErr r (λ refusal. refusal ≢ Memory)) (sym c.keep.ensures.answer)
+    c.note-answer.ensures.free

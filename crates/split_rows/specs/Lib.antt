@@ -1,0 +1,4 @@
+pub mod Pieces
+pub mod MovedParts
+pub mod Taken
+pub mod Splits
