@@ -59,7 +59,7 @@ WANT = (
     f"|standard error: ({beginning('no memory')}|{beginning('NAME: line LINE: fault 14 memory')}"
     f"|{beginning('NAME: line LINE: script fault 8 memory')})$"
 )
-ROWS = ["test_commands", "test_monitor", "test_protocol", "test_records", "test_runs"]
+ROWS = ["test_commands", "test_protocol", "test_records"]
 # The tests that are gone over, by what their names have, and whether all allocations of each are refused.
 TESTS = {"test_resources": ("refused_growth", True), "test_twin": ("both_worlds", False)}
 
@@ -265,7 +265,7 @@ def rows(library, top, name):
         with open(f"{folder}/data/{data}", encoding="utf-8") as file:
             blocks = file.read().split("\n### ")[1:]
         for block in blocks:
-            if block.splitlines()[1] == "rooms" and name == "test_runs":
+            if block.splitlines()[1] == "rooms" and name == "test_commands":
                 # a run is measured by another one, of which no more is said than its length
                 continue
             with tempfile.TemporaryDirectory() as place:
@@ -281,7 +281,7 @@ def rows(library, top, name):
                     lines = out.splitlines()
                     other = next((k for k, line in enumerate(lines) if wanted[k : k + 1] != [line]), len(lines))
                     # what a command wrote before it wanted memory may stand before that
-                    told = lines[other:] if name in ("test_commands", "test_monitor", "test_runs") else lines[other : other + 4]
+                    told = lines[other:] if name == "test_commands" else lines[other : other + 4]
                     wants = not told or re.search(WANT, "\n".join(told))
                     if status == 0 or not wants:
                         raise Wrong(f"{name}, {data}, {block.splitlines()[0]!r}, growth {at}: status {status}, {out!r}, {errors!r}")

@@ -1,6 +1,9 @@
 //! What a row asks for.
+use cli::Lines;
 use judged_keys::{Judged, Names, Selection};
+use monitor_command::Monitoring;
 use std::io::ErrorKind;
+use test_rows::AMPLE;
 
 /// A row's input: its first line, which is a kind and its options, and the lines below it.
 #[derive(Clone, Copy)]
@@ -82,6 +85,29 @@ impl<'a> Asked<'a> {
             keys: Names::of(if name.is_empty() { None } else { Some(name) }),
             most: u16::try_from(self.number("most", 10)).unwrap_or(10),
         }
+    }
+
+    /// In which form lines are: with `json` they are objects.
+    pub fn form(self) -> Lines {
+        if self.has("json") {
+            Lines::Json
+        } else {
+            Lines::Plain
+        }
+    }
+
+    /// How a history is monitored: a read is given up after 1,000,000 rows unless the row says after how many.
+    pub fn monitoring(self) -> Monitoring {
+        Monitoring {
+            all: self.has("all"),
+            give_up: self.value("give-up").parse::<u32>().unwrap_or(1_000_000),
+            form: self.form(),
+        }
+    }
+
+    /// For how many bytes the standard output has room: for any number unless the row says for how many.
+    pub fn room(self) -> usize {
+        self.number("room", AMPLE)
     }
 
     /// How many lines of a trace are told: 10,000 or as many as the option `most` says.

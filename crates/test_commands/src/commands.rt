@@ -2,19 +2,25 @@
 use crate::answers::Agreed;
 use crate::asked::Asked;
 use crate::notation::bytes_of;
-use crate::running::{ALL_KEYS, Input, WELL, Way, run};
-use cli::{Lines, Status};
+use crate::running::{Input, WELL, Way, run};
+use cli::Status;
 use command_line::By;
 use std::alloc::{AllocError, Global};
 use std::sync::Wait;
 use std::thread::Threads;
 use test_rows::{Answer, Said, extent, say_outputs, spans_of};
 
+/// The status, and what went to both outputs.
+pub fn say_ended(out: &mut Answer, said: &Said<Status>) {
+    let status = said.status.code();
+    write!(out, "status {status}\n");
+    say_outputs(out, said.out.as_slice(), said.errors.as_slice());
+}
+
 /// The command's name and status, and what went to both outputs.
 fn say_said(out: &mut Answer, name: &str, said: &Said<Status>) {
-    let status = said.status.code();
-    write!(out, "{name}: status {status}\n");
-    say_outputs(out, said.out.as_slice(), said.errors.as_slice());
+    write!(out, "{name}: ");
+    say_ended(out, said);
 }
 
 /// Says what comes of the command of that name. What it wrote, if its status is good.
@@ -109,18 +115,13 @@ fn say_extents(answer: &mut Answer, said: &Said<Status>, whole: &Said<Status>, w
 /// commands have those options, with `values` a justification makes orders by values, and with `people` it speaks
 /// to people.
 fn well(asked: Asked<'_>) -> Way {
-    let form = if asked.has("json") {
-        Lines::Json
-    } else {
-        Lines::Plain
-    };
     let by = if asked.has("values") {
         By::Values
     } else {
         By::Tags
     };
     Way {
-        form,
+        form: asked.form(),
         by,
         unchecked: asked.has("unchecked"),
         people: asked.has("people"),
@@ -313,12 +314,7 @@ fn seed_answer(
 fn say_statuses(rt: &(impl Threads + Wait + Sync), out: &mut Answer, lines: &str) {
     let alloc = out.alloc();
     let script = bytes_of(out, lines);
-    let input = Input {
-        file: script.as_slice(),
-        orders: &[],
-        selection: ALL_KEYS,
-        decided: "",
-    };
+    let input = Input::all_of(script.as_slice());
     let simulated = run(rt, alloc, "simulate", input, WELL);
     let input = Input {
         file: simulated.out.as_slice(),

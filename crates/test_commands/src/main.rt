@@ -13,8 +13,11 @@ mod devices;
 mod feeding;
 mod formats;
 mod kept;
+mod loads;
+mod monitored;
 mod names;
 mod notation;
+mod own_writes;
 mod readings;
 mod running;
 mod saying;
@@ -27,6 +30,8 @@ use contents::{say_history_row, say_orders_row, say_script_row, say_writers_row}
 use counts::{say_counted_reads, say_counted_writes, say_faults, say_other_faults};
 use feeding::say_fed;
 use kept::{say_kept_reads, say_kept_sizes};
+use loads::say_runs;
+use monitored::say_monitored;
 use names::say_names;
 use readings::{Format, say_cuts, say_files_read};
 use std::process::ExitCode;
@@ -48,6 +53,7 @@ fn say_file_row(rt: &(impl Threads + Wait + Sync), out: &mut Answer, asked: Aske
         "key-orders" => say_orders_row(rt, out, asked.lines),
         "writers" => say_writers_row(rt, out, asked.lines),
         "cuts" => say_cuts(rt, out, asked),
+        "monitor" => say_monitored(rt, out, asked),
         "why-history" => say_history_why(rt, out, asked),
         "why-orders" => say_orders_why(rt, out, asked),
         "why-script" => say_script_why(rt, out, asked),
@@ -56,8 +62,12 @@ fn say_file_row(rt: &(impl Threads + Wait + Sync), out: &mut Answer, asked: Aske
 }
 
 /// What comes of other rows.
-fn say_row(rt: &(impl Threads + Wait + Sync), out: &mut Answer, asked: Asked<'_>) {
+fn say_row<R>(rt: &R, out: &mut Answer, asked: Asked<'_>)
+where
+    R: Threads + Wait + Copy + Send + Sync + 'static,
+{
     match asked.kind() {
+        "run" | "load" | "rooms" => say_runs(rt, out, asked),
         "simulate" | "trace" | "justify" | "check" | "decide" | "explain" | "explain-tags" => {
             say_command_row(rt, out, asked)
         }

@@ -24,8 +24,27 @@ pub struct Input<'a> {
     pub decided: &'a str,
 }
 
+impl<'a> Input<'a> {
+    /// The file alone, and all its keys.
+    pub fn all_of(file: &'a [u8]) -> Input<'a> {
+        Input {
+            file,
+            orders: &[],
+            selection: ALL_KEYS,
+            decided: "",
+        }
+    }
+
+    /// The explanation of its keys.
+    fn explaining(self) -> Explaining<'a> {
+        Explaining {
+            selection: self.selection,
+        }
+    }
+}
+
 /// All keys, and a reason for each of the first ten that are refused.
-pub const ALL_KEYS: Selection<'static> = Selection {
+const ALL_KEYS: Selection<'static> = Selection {
     judged: Judged::Orders,
     keys: Names::Several(&[]),
     most: 10,
@@ -63,13 +82,11 @@ pub const WELL: Way = Way {
     most: 10_000,
 };
 
+/// A file that a command reads.
+type Reading<'a> = Source<'a, Counting<Pieces<'a>>>;
+
 /// The file of that name.
-fn file<'a>(
-    name: &'a str,
-    left: &'a [u8],
-    size: usize,
-    failure: Option<ErrorKind>,
-) -> Source<'a, Counting<Pieces<'a>>> {
+fn file<'a>(name: &'a str, left: &'a [u8], size: usize, failure: Option<ErrorKind>) -> Reading<'a> {
     Source::new(
         name,
         Counting::new(Pieces {
@@ -92,6 +109,94 @@ fn names_in(alloc: Global, text: &str) -> Result<Vec<&str>, AllocError> {
     Ok(names)
 }
 
+/// A justification by tags or by values.
+fn justify(
+    rt: &(impl Threads + Sync),
+    alloc: Global,
+    history: &mut Reading<'_>,
+    way: Way,
+    outputs: &mut Outputs,
+) -> Status {
+    let (out, errors) = (&mut outputs.out, &mut outputs.errors);
+    let (unchecked, people) = (way.unchecked, way.people);
+    match way.by {
+        By::Tags => justify_command(rt, alloc, history, unchecked, people, out, errors),
+        By::Values => {
+            let justifying = Justifying { unchecked };
+            judge_history_command(rt, alloc, history, &justifying, out, errors).status
+        }
+    }
+}
+
+/// A decision of keys.
+fn decide(
+    rt: &(impl Threads + Sync),
+    alloc: Global,
+    history: &mut Reading<'_>,
+    input: Input<'_>,
+    form: Lines,
+    outputs: &mut Outputs,
+) -> Status {
+    let Ok(names) = names_in(alloc, input.decided) else {
+        return Status::Failed;
+    };
+    let deciding = Deciding {
+        keys: Names::Several(names.as_slice()),
+        most: input.selection.most,
+        form,
+    };
+    let (out, errors) = (&mut outputs.out, &mut outputs.errors);
+    judge_history_command(rt, alloc, history, &deciding, out, errors).status
+}
+
+/// A check or an explanation of a history with orders.
+fn judge_orders<'a>(
+    rt: &(impl Threads + Wait + Sync),
+    alloc: Global,
+    name: &str,
+    history: &mut Reading<'a>,
+    input: Input<'a>,
+    way: Way,
+    outputs: &mut Outputs,
+) -> Status {
+    let orders = &mut file("o", input.orders, way.size, None);
+    let (out, errors) = (&mut outputs.out, &mut outputs.errors);
+    if name == "explain" {
+        let shown = &input.explaining();
+        return judge_orders_command(rt, alloc, history, orders, shown, out, errors).status;
+    }
+    match Workers::new(way.workers) {
+        Some(workers) => {
+            check_command(rt, alloc, history, orders, workers, way.form, out, errors)
+        }
+        None => Status::Usage,
+    }
+}
+
+/// The command of that name on that file and, if it needs them, on orders.
+fn run_on<'a>(
+    rt: &(impl Threads + Wait + Sync),
+    alloc: Global,
+    name: &str,
+    file: &mut Reading<'a>,
+    input: Input<'a>,
+    way: Way,
+    outputs: &mut Outputs,
+) -> Status {
+    let (out, errors) = (&mut outputs.out, &mut outputs.errors);
+    match name {
+        "simulate" => simulate_command(rt, alloc, file, out, errors),
+        "trace" => trace_command(rt, alloc, file, way.most, out, errors),
+        "explain-tags" => {
+            let shown = &input.explaining();
+            judge_history_command(rt, alloc, file, shown, out, errors).status
+        }
+        "justify" => justify(rt, alloc, file, way, outputs),
+        "decide" => decide(rt, alloc, file, input, way.form, outputs),
+        _ => judge_orders(rt, alloc, name, file, input, way, outputs),
+    }
+}
+
 /// What comes of the command of that name. A script is named `s`, a history `h`, and orders `o`.
 pub fn run(
     rt: &(impl Threads + Wait + Sync),
@@ -101,70 +206,11 @@ pub fn run(
     way: Way,
 ) -> Said<Status> {
     let mut outputs = Outputs::new(alloc, way.out, way.errors);
-    let Some(workers) = Workers::new(way.workers) else {
-        return outputs.said(Status::Usage);
-    };
     let first = match name {
         "simulate" | "trace" => "s",
         _ => "h",
     };
     let mut first = file(first, input.file, way.size, way.failure);
-    let mut orders = file("o", input.orders, way.size, None);
-    let (out, errors) = (&mut outputs.out, &mut outputs.errors);
-    let selection = input.selection;
-    let explaining = Explaining { selection };
-    let status = match name {
-        "simulate" => simulate_command(rt, alloc, &mut first, out, errors),
-        "trace" => trace_command(rt, alloc, &mut first, way.most, out, errors),
-        "justify" => match way.by {
-            By::Tags => {
-                let (unchecked, people) = (way.unchecked, way.people);
-                justify_command(rt, alloc, &mut first, unchecked, people, out, errors)
-            }
-            By::Values => {
-                let unchecked = way.unchecked;
-                let justifying = Justifying { unchecked };
-                judge_history_command(rt, alloc, &mut first, &justifying, out, errors).status
-            }
-        },
-        "explain" => {
-            judge_orders_command(
-                rt,
-                alloc,
-                &mut first,
-                &mut orders,
-                &explaining,
-                out,
-                errors,
-            ).status
-        }
-        "explain-tags" => {
-            judge_history_command(rt, alloc, &mut first, &explaining, out, errors).status
-        }
-        "decide" => match names_in(alloc, input.decided) {
-            Ok(names) => {
-                let deciding = Deciding {
-                    keys: Names::Several(names.as_slice()),
-                    most: selection.most,
-                    form: way.form,
-                };
-                judge_history_command(rt, alloc, &mut first, &deciding, out, errors).status
-            }
-            Err(_) => Status::Failed,
-        },
-        _ => {
-            let form = way.form;
-            check_command(
-                rt,
-                alloc,
-                &mut first,
-                &mut orders,
-                workers,
-                form,
-                out,
-                errors,
-            )
-        }
-    };
+    let status = run_on(rt, alloc, name, &mut first, input, way, &mut outputs);
     outputs.said(status)
 }

@@ -11,9 +11,8 @@ use history_file::read_history;
 use recorder::{History, Part};
 use std::alloc::Global;
 use std::process::ExitCode;
-use std::sync::Wait;
 use std::thread::Threads;
-use test_rows::Pieces;
+use test_rows::{Answer, Pieces};
 use witness_order::order_of;
 
 /// The text of the record's file.
@@ -63,27 +62,66 @@ fn keys_with_orders(alloc: Global, history: &History) -> Option<usize> {
     Some(parts.len())
 }
 
+/// Says how many keys have their orders.
+fn say_orders(out: &mut Answer, history: &History) {
+    match keys_with_orders(out.alloc(), history) {
+        Some(ordered) => write!(out, "keys with their orders: {ordered} of {KEYS}\n"),
+        None => out.refuse(),
+    }
+}
+
+/// Says whether what was read again is the record, and how many of its keys have their orders.
+fn say_again(out: &mut Answer, history: &History, again: &History) {
+    let is_equal = are_equal(history, again);
+    write!(out, "read again: equal {is_equal}\n");
+    say_orders(out, again);
+}
+
+/// Says how long the record's file is, and what is read of it.
+fn say_text(rt: &(impl Threads + Sync), out: &mut Answer, history: &History, text: &[u8]) {
+    let (rows, bytes) = (history.row_count(), text.len());
+    write!(out, "{rows} rows, {bytes} bytes\n");
+    match read_again(rt, out.alloc(), text) {
+        Some(again) => say_again(out, history, &again),
+        None => out.push("not read again\n"),
+    }
+}
+
+/// Says what comes of the record's file.
+fn say_file(rt: &(impl Threads + Sync), out: &mut Answer, history: &History) {
+    match written(out.alloc(), history) {
+        Some(text) => say_text(rt, out, history, text.as_slice()),
+        None => out.push("not written\n"),
+    }
+}
+
+/// Says how many calls the record has, and why it takes no further one.
+fn say_full(out: &mut Answer, history: &mut History) {
+    match one_call_more(out.alloc(), history) {
+        Some(refused) => {
+            let calls = history.calls();
+            write!(out, "{calls} calls of {CALLS}, and then: {refused}\n");
+        }
+        None => out.push("one call more than there may be\n"),
+    }
+}
+
 /// Says what came of the record.
-fn say<R: Threads + Wait + Sync>(rt: &HostRuntime, threads: &R) -> Option<()> {
-    let alloc = rt.alloc();
-    let mut history = whole_record(alloc)?;
-    let refused = one_call_more(alloc, &mut history)?;
-    rt.println(format_args!("{} calls of {CALLS}, and then: {refused}", history.calls()))
-        .ok()?;
-    let text = written(alloc, &history)?;
-    rt.println(format_args!("{} rows, {} bytes", history.row_count(), text.len()))
-        .ok()?;
-    let again = read_again(threads, alloc, text.as_slice())?;
-    rt.println(format_args!("read again: equal {}", are_equal(&history, &again)))
-        .ok()?;
-    let ordered = keys_with_orders(alloc, &again)?;
-    rt.println(format_args!("keys with their orders: {ordered} of {KEYS}"))
-        .ok()
+fn say(rt: &(impl Threads + Sync), out: &mut Answer) {
+    match whole_record(out.alloc()) {
+        Some(mut history) => {
+            say_full(out, &mut history);
+            say_file(rt, out, &history);
+        }
+        None => out.push("no record\n"),
+    }
 }
 
 fn main(rt: HostRuntime) -> ExitCode {
-    match say(&rt, &rt) {
-        Some(()) => ExitCode::SUCCESS,
-        None => ExitCode::FAILURE,
+    let mut out = Answer::new(rt.alloc());
+    say(&rt, &mut out);
+    match out.text() {
+        Ok(text) if rt.print(text.as_str()).is_ok() => ExitCode::SUCCESS,
+        _ => ExitCode::FAILURE,
     }
 }

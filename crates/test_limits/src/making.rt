@@ -1,7 +1,7 @@
 //! How the record is made.
 use recorder::{History, RowRefusal};
 use std::alloc::{AllocError, Global};
-use tag::{Action, ClientId, Key, Returned, Tag, Value};
+use tag::{Action, ClientId, Key, OpId, Returned, Tag, Value};
 
 /// How many calls there may be.
 pub const CALLS: u32 = 1_000_000;
@@ -56,25 +56,39 @@ impl Made {
         Tag::new(1 + self.round() / 2, 1)
     }
 
-    /// What it does, and what it is answered.
-    fn action(self, alloc: Global) -> Option<(Action, Returned)> {
-        let value = self.value(alloc)?;
+    /// What it does.
+    fn action(self, alloc: Global) -> Option<Action> {
         if self.is_write() {
-            Some((Action::Write(value), Returned::Written))
+            Some(Action::Write(self.value(alloc)?))
         } else {
-            Some((Action::Read, Returned::Value(Some(value))))
+            Some(Action::Read)
         }
+    }
+
+    /// What it is answered.
+    fn returned(self, alloc: Global) -> Option<Returned> {
+        if self.is_write() {
+            Some(Returned::Written)
+        } else {
+            Some(Returned::Value(Some(self.value(alloc)?)))
+        }
+    }
+}
+
+/// Begins the call.
+fn begin(alloc: Global, history: &mut History, made: Made) -> Option<OpId> {
+    let (client, key) = (made.client()?, made.key(alloc)?);
+    match made.action(alloc) {
+        Some(action) => history.invoke(client, key, action).ok(),
+        None => None,
     }
 }
 
 /// Adds the call, its note and its response.
 fn add(alloc: Global, history: &mut History, made: Made) -> Option<()> {
-    let (action, returned) = made.action(alloc)?;
-    let op = history
-        .invoke(made.client()?, made.key(alloc)?, action)
-        .ok()?;
+    let op = begin(alloc, history, made)?;
     history.note(op, made.tag()?).ok()?;
-    history.respond(op, returned).ok()
+    history.respond(op, made.returned(alloc)?).ok()
 }
 
 /// A record of as many calls as there may be, each with its note and its response.

@@ -1,12 +1,13 @@
-//! The command on a row's file, in pieces of several sizes.
+//! Rows of `abd monitor`: the command on a row's file, in pieces of several sizes.
 use crate::asked::Asked;
+use crate::commands::say_ended;
 use crate::notation::bytes_of;
 use cli::{Source, Status};
 use counted_devices::Counting;
 use monitor_command::{NoWatch, monitor_command};
 use std::alloc::Global;
 use std::thread::Threads;
-use test_rows::{AMPLE, Answer, Outputs, Pieces, Said, say_bytes, say_outputs};
+use test_rows::{AMPLE, Answer, Outputs, Pieces, Said, say_bytes};
 
 /// The sizes of pieces in which a file is read once more.
 const SIZES: [usize; 5] = [2, 3, 7, 65_535, 65_536];
@@ -42,13 +43,6 @@ fn monitor<'a>(
     }
 }
 
-/// Says the status, and what went to both outputs.
-fn say_said(out: &mut Answer, said: &Said<Status>) {
-    let code = said.status.code();
-    write!(out, "status {code}\n");
-    say_outputs(out, said.out.as_slice(), said.errors.as_slice());
-}
-
 /// Whether the same came of both.
 fn are_same(one: &Said<Status>, other: &Said<Status>) -> bool {
     one.status == other.status
@@ -76,7 +70,7 @@ fn say_other(
     let other = monitor(rt, out.alloc(), asked, file, size).said;
     if !are_same(said, &other) {
         write!(out, "OTHERWISE IN PIECES OF {size}:\n");
-        say_said(out, &other);
+        say_ended(out, &other);
     }
 }
 
@@ -86,7 +80,7 @@ fn say_file(rt: &(impl Threads + Sync), out: &mut Answer, asked: Asked<'_>, line
     let file = bytes_of(out, lines);
     let file = file.as_slice();
     let first = monitor(rt, out.alloc(), asked, file, 1);
-    say_said(out, &first.said);
+    say_ended(out, &first.said);
     say_left(out, first.left);
     for size in SIZES {
         say_other(rt, out, asked, file, size, &first.said);
@@ -94,7 +88,7 @@ fn say_file(rt: &(impl Threads + Sync), out: &mut Answer, asked: Asked<'_>, line
 }
 
 /// Says what comes of the row's file, or of each line's where the row says `each`.
-pub fn say_row(rt: &(impl Threads + Sync), out: &mut Answer, asked: Asked<'_>) {
+pub fn say_monitored(rt: &(impl Threads + Sync), out: &mut Answer, asked: Asked<'_>) {
     if asked.has("each") {
         for line in asked.lines.lines() {
             say_file(rt, out, asked, line);
