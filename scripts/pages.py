@@ -2,7 +2,9 @@
 
 Reads pages of `abd draw` as XML, and compares what they show with the history, read here by other means. The histories are those of COUNT
 random scripts (100 if not given), drawn by their tags, by their orders and by their values, the same where some reads answer something
-else, by their values, one with values that look like markup, and some of many clients, which share columns.
+else, by their values, one with values that look like markup, and some of many clients, which share columns. Of orders that are refused,
+those the other way round and those with two calls swapped, the bars have the places, and an arrow joins the two calls whose precedence is
+broken. Words of style sheets that a browser may not know stand in rules of their own.
 
 Of each key it compares the calls, their clients and columns, the rows where they begin and end, and the points of a `yes`; so it does of
 all keys together (`--whole`), whose one order it makes of the keys' orders, and on the page of a script, whose messages it compares with
@@ -48,8 +50,10 @@ def calls_of(path):
         for line, text in enumerate(file.read().split("\n"), 1):
             row = json.loads(text) if text else {}
             if row.get("row") == "invoke":
-                call = {"key": row["key"], "client": row["client"], "kind": row["do"], "begins": line, "ends": None}
+                call = {"key": row["key"], "client": row["client"], "kind": row["do"], "begins": line, "last": line, "ends": None}
                 calls[row["call"]] = {**call, "value": row.get("value")}
+            elif row.get("row") == "note":
+                calls[row["call"]]["last"] = line
             elif row.get("row") == "respond":
                 calls[row["call"]].update(ends=line, value=row.get("value", calls[row["call"]]["value"]))
     return calls
@@ -63,14 +67,25 @@ def number(it, name):
     return float(it.get(name))
 
 
+def is_open(bar):
+    """Whether a bar has no side below."""
+    return bar.find("rect") is None
+
+
+def points_of(line):
+    """The corners of a line, each so far right and so far down."""
+    points = [float(it) for it in line.get("points").split()]
+    return list(zip(points[::2], points[1::2]))
+
+
 def corners(bar):
-    """The left, right and top of a bar, and its bottom where it ends."""
+    """The left, right, top and bottom of a bar."""
     box = bar.find("rect")
     if box is not None:
         left, top = number(box, "x"), number(box, "y")
         return left, left + number(box, "width"), top, top + number(box, "height")
-    points = [float(it) for it in bar.find("polyline").get("points").split()]
-    return min(points[::2]), max(points[::2]), min(points[1::2]), None
+    across, down = zip(*points_of(bar.find("polyline")))
+    return min(across), max(across), min(down), max(down)
 
 
 def named(bar):
@@ -78,8 +93,21 @@ def named(bar):
     return [int(it) for it in re.match(r"call (\d+), client (\d+), ", bar.find("title").text).groups()]
 
 
-def columns_of(own, ops):
-    """The column of each client of the calls: its own, or, of more than 16, the first that is free where it begins its first call."""
+def last_marks(picture, bars, own, row_of):
+    """The line up to which each call needs its column: that of its answer, or the last of its begin, its note and its point."""
+    last = {op: own[op]["ends"] or own[op]["last"] for op in bars}
+    for dot in elements(picture, "circle", "dot"):
+        x, y = number(dot, "cx"), number(dot, "cy")
+        for op, bar in bars.items():
+            left, right, top, bottom = corners(bar)
+            if own[op]["ends"] is None and left < x < right and top < y < bottom:
+                last[op] = max([last[op]] + [line for line, row in row_of.items() if row < y])
+    return last
+
+
+def columns_of(own, ops, last):
+    """The column of each client of the calls: its own, or, of more than 16, the first that is free where it begins its first call. A call
+    needs its column up to that line."""
     clients = sorted({own[op]["client"] for op in ops})
     if len(clients) <= 16:
         return {client: place for place, client in enumerate(clients)}
@@ -87,10 +115,9 @@ def columns_of(own, ops):
     for op in sorted(ops):
         client, begins = own[op]["client"], own[op]["begins"]
         if client not in columns:
-            free = [place for place, end in enumerate(until) if end and end < begins]
+            free = [place for place, end in enumerate(until) if end < begins]
             columns[client] = free[0] if free else len(until)
-            ends = [own[it]["ends"] for it in ops if own[it]["client"] == client]
-            until[columns[client]:columns[client] + 1] = [None if None in ends else max(ends)]
+            until[columns[client]:columns[client] + 1] = [max(last[it] for it in ops if own[it]["client"] == client)]
     return columns
 
 
@@ -101,9 +128,21 @@ def check_head(text, clients):
     expect(text in fits, "head", text, "of clients", clients)
 
 
-def check_columns(picture, bars, own):
+def check_apart(bars):
+    """No two bars of a column stand at one place."""
+    columns = {}
+    for bar in bars.values():
+        left, _, top, bottom = corners(bar)
+        columns.setdefault(left, []).append((top, bottom))
+    for column in columns.values():
+        column.sort()
+        expect(all(one[1] < other[0] for one, other in zip(column, column[1:])), "bars of a column", column)
+
+
+def check_columns(picture, bars, own, row_of):
     """Each client has the column that it should have, with its name in the head and, in a shared one, in its bars. Where each is."""
-    column_of = columns_of(own, bars)
+    column_of = columns_of(own, bars, last_marks(picture, bars, own, row_of))
+    check_apart(bars)
     clients = [sorted(it for it in column_of if column_of[it] == place) for place in range(len(set(column_of.values())))]
     heads = {}
     for it in elements(picture, "text", "client"):
@@ -124,8 +163,9 @@ def check_bar(bar, call, client_at, row_of):
     expect(named(bar)[1] == call["client"], "client of", call)
     expect(left < client_at[call["client"]] < right, "column of", call)
     expect(top + EDGE == row_of.get(call["begins"]), "begin of", call)
-    expect((bottom is None) == (call["ends"] is None), "end of", call)
-    expect(bottom is None or bottom - EDGE == row_of.get(call["ends"]), "end of", call)
+    expect(is_open(bar) == (call["ends"] is None), "end of", call)
+    expect(is_open(bar) or bottom - EDGE == row_of.get(call["ends"]), "end of", call)
+    expect(bottom > row_of.get(call["last"]), "end of", call)
 
 
 def check_points(picture, bars, order):
@@ -136,7 +176,7 @@ def check_points(picture, bars, order):
     expect(all(one[1] < other[1] for one, other in zip(dots, dots[1:])), "points fall")
     for (_, call), (x, y) in zip(shown, dots):
         left, right, top, bottom = corners(bars[call])
-        expect(left < x < right and top < y and (bottom is None or y < bottom), "point of", call)
+        expect(left < x < right and top < y < bottom, "point of", call)
 
 
 def check_order(own, order):
@@ -172,8 +212,8 @@ def check_calls(section, own, most, of):
     expect(ranges == ranges_of(bars, own), "ranges of calls of", of, ranges)
     expect(total == len(own) and shown == len(bars) and shown == len(elements(picture, "g")), "calls of", of)
     expect(set(bars) <= set(own) and (shown == most or set(bars) == set(own)), "calls shown of", of)
-    client_at = check_columns(picture, bars, own)
     row_of = {int(it.text[5:]): number(it, "y") - 4 for it in elements(picture, "text", "line")}
+    client_at = check_columns(picture, bars, own, row_of)
     for op, bar in bars.items():
         expect(own[op]["kind"] in bar.get("class"), "kind of", op)
         check_bar(bar, own[op], client_at, row_of)
@@ -298,6 +338,15 @@ def check_title(root, history):
     expect(next(root.iter("title")).text == words == next(root.iter("h1")).text, "title", next(root.iter("h1")).text, "and not", words)
 
 
+def check_styles(root):
+    """What a browser may not know kills no rule but its own: all selectors of a rule need it, or none."""
+    for style in root.iter("style"):
+        for rule in re.findall(r"([^{};]*)\{", style.text or ""):
+            selectors = re.split(r",(?![^(]*\))", rule)
+            for word in (":has(", "::details-content", ":is(", ":where("):
+                expect(len({word in it for it in selectors}) == 1, "selectors", rule)
+
+
 def read_page(text):
     """The page's elements; none of them can run or fetch something."""
     first, _, rest = text.partition("\n")
@@ -312,6 +361,7 @@ def read_page(text):
     for it in root.iter("a"):
         expect(it.get("href")[1:] in places, "link", it.get("href"))
     check_headings(root)
+    check_styles(root)
     check_tables(root)
     check_boxes(root)
     return root
@@ -402,7 +452,55 @@ def check_history(abd, place, history):
     for words in ([], [order_file]):
         check_title(check_page(run(abd, "draw", history, *words)[1], history, orders), history)
         check_whole(run(abd, "draw", "--whole", "--calls", "10000", history, *words)[1], history, orders)
+    check_refused(abd, place, history, orders)
     return orders
+
+
+def swapped(order, calls):
+    """The order with two reads beside each other swapped, of which one ended before the other began; else the order."""
+    for place, (one, other) in enumerate(zip(order, order[1:])):
+        ended = calls[one]["ends"]
+        if calls[one]["kind"] == calls[other]["kind"] == "read" and ended and ended < calls[other]["begins"]:
+            return order[:place] + [other, one] + order[place + 2:]
+    return order
+
+
+def check_arrow(section, order, verdict):
+    """Of an order that lists a call before one that had ended when it began, an arrow leads from that one to it, where both have bars."""
+    bars = {named(bar)[0]: bar for bar in section.iter("g")}
+    broken = re.fullmatch(r"no 6 order broken at (\d+) and (\d+)", verdict)
+    pair = [order[int(place)] for place in broken.groups()[::-1]] if broken else []
+    arrows, words = elements(section, "polyline", "arrow"), elements(section, "text", "before")
+    expect(len(arrows) == len(words) == (len(pair) == 2 and set(pair) <= set(bars)), "arrows of", verdict)
+    for arrow, word in zip(arrows, words):
+        (x, y), (over, _), (tip, foot) = points_of(arrow)[:3]
+        left, right, top, bottom = corners(bars[pair[0]])
+        expect(left <= x <= right and top < y < bottom, "begin of the arrow from", pair[0])
+        left, right, top, bottom = corners(bars[pair[1]])
+        expect(left < over == tip < right and foot == top, "end of the arrow to", pair[1])
+        expect(word.text == "before" and y < number(word, "y") < y + 20, "word of the arrow from", pair[0])
+
+
+def check_refused(abd, place, history, orders):
+    """Of an order that is refused each bar has its call's place, if it lists the call, and what it breaks has an arrow."""
+    calls = calls_of(history)
+    check_places(abd, place, history, {key: order[::-1] for key, order in orders.items()})
+    check_places(abd, place, history, {key: swapped(order, calls) for key, order in orders.items()})
+
+
+def check_places(abd, place, history, turned):
+    """The same of these orders."""
+    order_file = os.path.join(place, "turned")
+    with open(order_file, "w", encoding="utf-8") as file:
+        file.write('{"abd":"orders","version":1}\n')
+        file.write("".join(json.dumps({"key": key, "order": order}) + "\n" for key, order in sorted(turned.items())))
+    for section in read_page(run(abd, "draw", history, order_file)[1]).iter("section"):
+        key, verdict = next(section.iter("h2")).text.split(": ", 1)
+        check_arrow(section, turned[key], verdict.partition(", hall ")[0])
+        for bar in section.iter("g"):
+            op, said = named(bar)[0], re.search(r"#\d+ \[(\d+)\]", bar.find("text").text)
+            own = turned[key].index(op) if verdict.startswith("no") and op in turned[key] else None
+            expect((int(said.group(1)) if said else None) == own, "place in the order of", op, bar.find("text").text)
 
 
 def check_unruly(abd, place):
@@ -428,8 +526,11 @@ def check_many(abd, place, seed):
             again = [it for it in range(1, client) if it not in gone and chosen.random() < 0.02]
             caller = again[0] if again else client
             client = max(client, caller + 1)
-            rows.append({"call": call, "client": caller, "do": "read", "key": "x", "row": "invoke"})
-            busy.append((call, caller))
+            if chosen.random() < 0.2:  # a write that fails: it is never answered
+                rows.append({"call": call, "client": caller, "do": "write", "key": "x", "row": "invoke", "value": str(call)})
+            else:
+                rows.append({"call": call, "client": caller, "do": "read", "key": "x", "row": "invoke"})
+                busy.append((call, caller))
             gone.add(caller)
             call += 1
         else:

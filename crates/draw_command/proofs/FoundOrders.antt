@@ -1,11 +1,11 @@
 -- The order that is found of calls is one of them, and calls that are atomic have one.
-use Rattle.std.proofs.Common.{◌⊎◌, List, inl, inr}
+use Rattle.std.proofs.Common.{List, inl, inr}
 use Rattle.tag.specs.declared.numbers.OpId.{OpId}
 use Rattle.recorder.specs.declared.part.Call.{Call}
 use Rattle.recorder.specs.Orders.{IsOrder}
 use Rattle.value_order.specs.declared.decision.Doubt.{Doubt}
 use Rattle.value_order.specs.declared.decision.ValueFault.{ValueFault}
-use Rattle.judged_keys.specs.Findings.{HasTagOrder, IsAtomic, IsRefuted, IsUndecided}
+use Rattle.judged_keys.specs.Findings.{IsAtomic, IsRefuted, IsUndecided}
 use Rattle.judged_keys.specs.FoundOrders.{IsFoundOrder}
 
 pub is_order : (part : List Call) (order : List OpId) → IsFoundOrder part order → IsOrder part order

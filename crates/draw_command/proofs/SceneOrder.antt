@@ -1,5 +1,5 @@
 -- The scene of a key is in order.
-use Rattle.std.proofs.Common.{ℕ, ◌≡◌, List, [], Option, Some, None, refl, sym, subst, arith}
+use Rattle.std.proofs.Common.{ℕ, List, [], Option, Some, None, refl, sym, subst, arith}
 use Rattle.std.specs.Prelude.{unwrap_or}
 use Rattle.std.proofs.lemmas.List.Sorted.{IsNonDecreasingBy-short}
 use Rattle.tag.proofs.Options.{none_some}

@@ -1,11 +1,12 @@
 -- What is drawn of a key: the calls that are shown, the linearization points of a key that isn't
 -- refused, and of a refused one the calls that show why, with the sentences that say it.
-use Rattle.std.specs.Prelude.{ℕ, ◌≡◌, Bool, List, [], ◌∷◌, Option, None, Some, nat_lt, slice_get}
-use Rattle.std.specs.Prelude.{unwrap_or, if◌then◌else◌}
+use Rattle.std.specs.Prelude.{ℕ, ◌≡◌, Bool, List, [], ◌∷◌, Option, None, Some, IfNone, IfSome}
+use Rattle.std.specs.Prelude.{nat_lt, slice_get, unwrap_or, if◌then◌else◌}
 use Rattle.command_line.specs.Forms.{default_calls, default_most}
 use Rattle.command_line.specs.declared.asked.By.{By}
 use Rattle.command_line.specs.declared.asked.By.TheVariants as by
 use Rattle.tag.specs.declared.numbers.OpId.{OpId}
+use Rattle.certificate_check.specs.declared.verdict.Fault.TheVariants as fault
 use Rattle.recorder.specs.declared.part.Call.{Call}
 use Rattle.recorder.specs.Sound.{IsByTag}
 use Rattle.parallel_keys.specs.CheckedKeys.{CheckedKey}
@@ -17,8 +18,11 @@ use Rattle.explanations.specs.declared.hall_rows.HallRows.{HallRows}
 use Rattle.value_explanations.specs.declared.value_reasons.ValueReason.{ValueReason}
 use Rattle.value_explanations.specs.declared.value_reasons.ValueReason.TheVariants as value_reason
 use Rattle.linearization_points.specs.Points.{AreApart, ArePoints}
+use Rattle.scenes.specs.Arrows.{IsUndrawn, Joins}
 use Rattle.scenes.specs.Scenes.{IsRisingListOf, IsSceneOf}
 use Rattle.scenes.specs.Windows.{IsToShow, IsWindowAround}
+use Rattle.scenes.specs.declared.arrows.Arrow.{Arrow}
+use Rattle.scenes.specs.declared.scene.Bar.{Bar}
 use Rattle.scenes.specs.declared.scene.Scene.{Scene}
 use Rattle.scenes.specs.declared.windows.Window.{Window}
 use Rattle.judged_keys.specs.Findings.{IsSo}
@@ -137,6 +141,34 @@ IsDrawnOrder one finding.Sound drawn =
 IsDrawnOrder one finding.Atomic drawn =
     (order : List OpId) × IsFoundOrder one.part order × (drawn ≡ Some order)
 IsDrawnOrder one f drawn = drawn ≡ None
+
+-- the key's order if it is refused
+abbrev pub refused_order : CheckedKey → Finding → List OpId
+refused_order one (finding.OrderFault fault) = one.order
+refused_order one f = []
+
+-- the arrow leads from the bar of the one call to that of the other; or there is none, since one of
+-- them has no bar
+abbrev pub IsArrowBetween : List Bar → OpId → OpId → Option Arrow → Type 0
+IsArrowBetween bars from to arrow =
+    IfSome arrow (Joins bars from to) × IfNone arrow (IsUndrawn bars from to)
+
+-- the same of two calls, if there are both
+abbrev pub IsArrowOf : List Bar → Option OpId → Option OpId → Option Arrow → Type 0
+IsArrowOf bars (Some from) (Some to) arrow = IsArrowBetween bars from to arrow
+IsArrowOf bars from to arrow = arrow ≡ None
+
+-- the same of the calls at these places of the order
+abbrev pub IsArrowAlong : List OpId → List Bar → ℕ → ℕ → Option Arrow → Type 0
+IsArrowAlong order bars from to arrow =
+    IsArrowOf bars (slice_get order from) (slice_get order to) arrow
+
+-- the arrow of a key: if its order lists a call before one that had ended when that call began, the
+-- arrow leads from the one that had ended to the one that began later
+abbrev pub IsBrokenArrow : CheckedKey → Finding → List Bar → Option Arrow → Type 0
+IsBrokenArrow one (finding.OrderFault (fault.OrderBroken later first)) bars arrow =
+    IsArrowAlong one.order bars first later arrow
+IsBrokenArrow one f bars arrow = arrow ≡ None
 
 -- the linearization points of the order that is drawn; of none no points
 abbrev pub AreDrawnPoints : List Call → Option (List OpId) → List ℕ → Type 0

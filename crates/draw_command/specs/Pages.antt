@@ -17,6 +17,7 @@ use Rattle.call_links.specs.Ids.{bar_ids, bar_target, bar_targets}
 use Rattle.call_links.specs.Linked.{linked}
 use Rattle.sentences.specs.Words.{quoted_text}
 use Rattle.parallel_keys.specs.CheckedKeys.{CheckedKey}
+use Rattle.scenes.specs.Listed.{AreFirstPlaces}
 use Rattle.cli.specs.Hints.{has_note}
 use Rattle.pictures.specs.Pictures.{picture_markup}
 use Rattle.pictures.specs.Sheets.{legend, style}
@@ -30,8 +31,8 @@ use Rattle.judged_keys.specs.Judgements.{Judgement}
 use Rattle.judged_keys.specs.declared.finding.Finding.{Finding}
 use Rattle.explain_command.specs.Lines.{finding_line, missing_text}
 use Rattle.draw_command.specs.Counts.{AreCountsOf}
-use Rattle.draw_command.specs.Drawings.{IsKeyScene, IsWhy}
 use Rattle.draw_command.specs.Frames.{titled_frame}
+use Rattle.draw_command.specs.Drawings.{IsBrokenArrow, IsKeyScene, IsWhy, refused_order}
 use Rattle.draw_command.specs.Pictured.{ArePictured}
 use Rattle.draw_command.specs.Ranges.{ranges_markup, ranges_of}
 use Rattle.draw_command.specs.declared.counts.KeyCounts.{KeyCounts}
@@ -344,8 +345,10 @@ IsOne (keys.One own) key = own.now ≡ key
 IsOne keys.Recorded key = ⊥
 
 module _ (numbered : NumberedHistories) (drawn : Drawn) where
-  -- the picture of a key's scene, in which the calls are marked that show why the key is refused;
-  -- the words say why, and the ids of its bars are those of the section of that number
+  -- the picture of a key's scene, in which the calls are marked that show why the key is refused,
+  -- and have their places in an order that is refused, with the arrow between two of them whose
+  -- precedence it breaks; the words say why, and the ids of its bars are those of the section of
+  -- that number
   pub record IsPictureOf (n : ℕ) (key : Judgement) (words : List ℕ) (picture : Picture) : Type 0
     where
       pub of_key : IsOne picture.keys key.one.key
@@ -354,6 +357,9 @@ module _ (numbered : NumberedHistories) (drawn : Drawn) where
       pub why : IsWhy picture.hall key words picture.faulty.now
       pub scene : IsKeyScene drawn picture.hall key picture.faulty.now picture.scene.now
       pub ids : picture.ids.now ≡ bar_ids n
+      pub places : AreFirstPlaces (refused_order key.one key.finding)
+          picture.scene.now.bars.items picture.places.now
+      pub before : IsBrokenArrow key.one key.finding picture.scene.now.bars.items picture.before
 
   -- the section of the key that has that number in the table, in whose picture these calls show why
   -- it is refused, on a page with refused keys or without: its hall is named if there are several,

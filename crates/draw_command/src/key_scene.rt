@@ -1,21 +1,24 @@
 //! The scene of a key.
 ghost use Rattle.std.specs.Option.{ForSome, option_map};
-ghost use Rattle.std.specs.Prelude.{◌≡◌, [], IfOk, IfSome, unwrap_or};
+ghost use Rattle.std.specs.Prelude.{◌≡◌, [], IfOk, IfSome, map, unwrap_or};
+ghost use Rattle.std.specs.List.Sorted.{IsStrictlyIncreasing};
 ghost use Rattle.recorder.specs.Orders.{IsOrder};
 ghost use Rattle.recorder.specs.Sound.{IsByTag, TagSound};
 ghost use Rattle.linearization_points.specs.Points.{AreApart};
 ghost use Rattle.judged_keys.specs.Findings.{IsAtomic, IsSo};
 ghost use Rattle.judged_keys.specs.FoundOrders.{IsFoundOrder};
 ghost use Rattle.judged_keys.specs.Judgements.{judgement_of};
-ghost use Rattle.draw_command.specs.Drawings.{AreDrawnPoints, IsDrawable, IsDrawnOrder, IsKeyScene};
-ghost use Rattle.draw_command.specs.Drawings.{order_in};
+ghost use Rattle.draw_command.specs.Drawings.{AreDrawnPoints, IsBrokenArrow, IsDrawable, IsDrawnOrder};
+ghost use Rattle.draw_command.specs.Drawings.{IsKeyScene};
+ghost use Rattle.draw_command.specs.Drawings.{IsArrowAlong, order_in, refused_order};
 
 use crate::drawn::Drawn;
+use certificate_check::Fault;
 use explanations::HallRows;
 use judged_keys::{Finding, JudgedKey, decide_key};
 use linearization_points::points_of;
 use recorder::{Order, Part};
-use scenes::{Scene, scene_of, shown_calls, window_around};
+use scenes::{Arrow, Bar, Scene, arrow_between, scene_of, shown_calls, window_around};
 use std::alloc::Global;
 use tag::{Memory, OpId};
 use value_order::Decision;
@@ -109,6 +112,44 @@ pub fn drawn_order<'a>(alloc: Global, key: &JudgedKey<'a>) -> Result<DrawnOrder<
         Finding::Sound => Ok(DrawnOrder::Made(tag_order(alloc, &key.one.part)?)),
         Finding::Atomic => Ok(DrawnOrder::Made(found_order(alloc, &key.one.part)?)),
         _ => Ok(DrawnOrder::Nothing),
+    }
+}
+
+/// The key's order if it is refused.
+pub(crate) fn refused_order<'a>(key: &JudgedKey<'a>) -> &'a [OpId]
+    ensures { let j = judgement_of key.now in result.now ≡ refused_order j.one j.finding }
+{
+    match key.finding {
+        Finding::OrderFault(_) => key.one.order,
+        _ => &[],
+    }
+}
+
+/// The arrow between the calls of these places in the order, if it has them and both have bars.
+fn arrow_along(order: &[OpId], bars: &[Bar], from: usize, to: usize) -> Option<Arrow>
+    requires { IsStrictlyIncreasing (map (λ bar. bar.call.0) bars.now) }
+    ensures { IsArrowAlong order.now bars.now from to result }
+{
+    let Some(first) = order.get(from) else {
+        return None;
+    };
+    let Some(later) = order.get(to) else {
+        return None;
+    };
+    arrow_between(bars, *first, *later)
+}
+
+/// The arrow between the calls whose precedence the key's order breaks, if it is refused for that and
+/// both have bars.
+pub(crate) fn broken_arrow(key: &JudgedKey<'_>, bars: &[Bar]) -> Option<Arrow>
+    requires { IsStrictlyIncreasing (map (λ bar. bar.call.0) bars.now) }
+    ensures { let j = judgement_of key.now in IsBrokenArrow j.one j.finding bars.now result }
+{
+    match key.finding {
+        Finding::OrderFault(Fault::OrderBroken(later, first)) => {
+            arrow_along(key.one.order, bars, first, later)
+        }
+        _ => None,
     }
 }
 

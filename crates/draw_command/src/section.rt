@@ -11,7 +11,7 @@ ghost use Rattle.draw_command.specs.Pages.{section_markup, why_line, why_lines, 
 ghost use Rattle.draw_command.specs.PicturedKeys.{IsExplained, judged_in, with_faulty};
 
 use crate::drawn::Drawn;
-use crate::key_scene::scene_of_key;
+use crate::key_scene::{broken_arrow, refused_order, scene_of_key};
 use crate::pictured_keys::PicturedKey;
 use crate::showing::append_showing;
 use crate::table::verdict_class;
@@ -26,6 +26,7 @@ use markup::{
 };
 use pictures::{CallKeys, Picture};
 use recorder::Halls;
+use scenes::first_places;
 use std::alloc::Global;
 use tag::{Key, Memory};
 
@@ -259,6 +260,8 @@ fn add_section(
     let (key, hall) = (own.key, own.hall);
     let faulty = own.why.faulty.as_slice();
     let scene = scene_of_key(alloc, &task.drawn, &hall, key, faulty)?;
+    let listed = first_places(alloc, &scene.bars, refused_order(key))?;
+    let places = listed.as_slice();
     let picture = Picture {
         keys: CallKeys::One(key.one.key),
         hall,
@@ -266,6 +269,8 @@ fn add_section(
         scene: &scene,
         faulty,
         ids: ids.as_str(),
+        places,
+        before: broken_arrow(key, &scene.bars),
     };
     let saying = Saying {
         n,

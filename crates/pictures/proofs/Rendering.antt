@@ -1,9 +1,10 @@
 -- Where the dots stand, one after another.
-use Rattle.std.proofs.Common.{ℕ, ◌≡◌, ◌<◌, ◌≤◌, ◌+◌, List, [], ◌++◌, length, get_or, drop}
+use Rattle.std.proofs.Common.{ℕ, ◌≡◌, ◌<◌, ◌≤◌, ◌+◌, List, [], ◌++◌, ◌∙◌, ap, append_assoc, length, get_or, drop}
 use Rattle.std.proofs.lemmas.List.{at_drop_more, at_drop_all}
 use Rattle.scenes.specs.declared.scene.Dot.{Dot}
 use Rattle.scenes.specs.declared.scene.Scene.{Scene}
 use Rattle.labels.proofs.Rendering.{after_all, after_one}
+use Rattle.markup.specs.Markup.{Markup, both, rendered}
 use Rattle.pictures.specs.Dots.{corner, corners}
 
 module _ (scene : Scene) (dots : List Dot) where
@@ -24,3 +25,16 @@ module _ (scene : Scene) (dots : List Dot) where
 
   pub corners_last : (i : ℕ) (done all : List ℕ) → length dots ≤ i → done ++ corners scene i (drop i dots) ≡ all → done ≡ all
   corners_last i done all past so_far = after_all done (corners scene i (drop i dots)) all (corners_end i past) so_far
+
+-- three pieces one after another
+regroup : (first one two three : List ℕ) → ((first ++ one) ++ two) ++ three ≡ first ++ (one ++ (two ++ three))
+regroup first one two three =
+    let inner : ((first ++ one) ++ two) ++ three ≡ (first ++ one) ++ (two ++ three) = append_assoc (first ++ one) two three in
+    let outer : (first ++ one) ++ (two ++ three) ≡ first ++ (one ++ (two ++ three)) = append_assoc first one (two ++ three) in
+    inner ∙ outer
+
+pub three_added : (a b d : Markup) (start one two three : List ℕ) → one ≡ start ++ rendered a → two ≡ one ++ rendered b → three ≡ two ++ rendered d
+    → three ≡ start ++ rendered (both a (both b d))
+unfolding rendered
+three_added a b d start one two three first second third =
+    third ∙ ap (λ (l : List ℕ). l ++ rendered d) (second ∙ ap (λ (l : List ℕ). l ++ rendered b) first) ∙ regroup start (rendered a) (rendered b) (rendered d)

@@ -13,7 +13,7 @@ use Rattle.scenes.specs.declared.gaps.Gap.{Gap}
 use Rattle.scenes.specs.declared.scene.Dot.{Dot}
 use Rattle.scenes.specs.declared.scene.Scene.{Scene}
 use Rattle.labels.proofs.Counts.{below, not_below}
-use Rattle.pictures.specs.Layout.{HasRowsInOrder, IsInOrder, dots_before, gaps_up_to, row_of_dot, row_of_gap, row_of_place, rows_of, ticks_before}
+use Rattle.pictures.specs.Layout.{HasRowsInOrder, IsInOrder, dots_before, gaps_up_to, row_of_dot, row_of_gap, row_of_place, rows_of, rows_up_to, ticks_before}
 use Rattle.pictures.proofs.Counts.{mapped_not_falling}
 
 not_up_to : (m n : ℕ) → n < m → nat_le m n ≡ false
@@ -205,7 +205,28 @@ module _ (scene : Scene) (ordered : IsInOrder scene) where
       let gaps = gaps_more d.place p (omega (arith, less)) in
       omega (arith, ticks, dots, gaps)
 
-  -- and within the rows
+  -- and within the rows up to its place or a later one
+  pub dot_up_to : (j p : ℕ) (d : Dot) → slice_get scene.dots.items j ≡ Some d → d.place ≤ p → row_of_dot scene j d.place < rows_up_to scene p
+  dot_up_to j p d at_j le =
+      let ticks = count_less (λ (t : ℕ). nat_le t d.place) (λ (t : ℕ). nat_le t p)
+      (λ t is. up_to t p (let h = from_up_to t d.place is in omega (arith, h, le))) scene.ticks.items
+      in
+      let dots = count_at_least (λ (x : Dot). nat_le x.place p) scene.dots.items j d at_j (λ k y earlier at_k.
+      up_to y.place p (let rise = dots_rise scene.dots.items ordered.dots k j y d earlier at_k at_j in omega (arith, rise, le)))
+      in
+      let gaps = gaps_more d.place p le in
+      omega (arith, ticks, dots, gaps)
+
+  -- the rows up to a place stand above the row of a later one
+  pub rows_above : (p q : ℕ) → p < q → rows_up_to scene p ≤ row_of_place scene q
+  rows_above p q less =
+      let ticks = count_less (λ (t : ℕ). nat_le t p) (λ (t : ℕ). nat_lt t q) (λ t is. below t q (let h = from_up_to t p is in omega (arith, h, less))) scene.ticks.items in
+      let dots = count_less (λ (d : Dot). nat_le d.place p) (λ (d : Dot). nat_lt d.place q)
+      (λ d is. below d.place q (let h = from_up_to d.place p is in omega (arith, h, less))) scene.dots.items in
+      let gaps = gaps_more p q (omega (arith, less)) in
+      omega (arith, ticks, dots, gaps)
+
+  -- and within all rows
   pub dot_within_rows : (j : ℕ) (d : Dot) → slice_get scene.dots.items j ≡ Some d → row_of_dot scene j d.place < rows_of scene
   dot_within_rows j d at_j =
       let ticks = count_by-le-length (λ (t : ℕ). nat_le t d.place) scene.ticks.items in

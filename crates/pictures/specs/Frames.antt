@@ -11,9 +11,11 @@ use Rattle.labels.specs.declared.places.Frame.{Frame}
 use Rattle.labels.specs.Labels.{number_of, polyline}
 use Rattle.labels.specs.Places.{place_and_size}
 use Rattle.pictures.specs.declared.sizes.TheConstants.{BAR_FOOT, BAR_LEFT, BAR_MARGINS, BAR_TOP}
-use Rattle.pictures.specs.declared.sizes.TheConstants.{FLOOR, READ_CORNER, WRITE_CORNER}
+use Rattle.pictures.specs.declared.sizes.TheConstants.{FLOOR, OPEN_FOOT, READ_CORNER}
+use Rattle.pictures.specs.declared.sizes.TheConstants.{WRITE_CORNER}
 use Rattle.pictures.specs.declared.style.TheConstants.{OPEN}
 use Rattle.pictures.specs.Layout.{across, column_of, column_width, down, row_of_place, rows_of}
+use Rattle.pictures.specs.Layout.{rows_up_to}
 
 -- how round the corners are of a bar of that action
 abbrev pub corner_of : Action → ℕ
@@ -39,16 +41,22 @@ open_corners frame corner =
 abbrev pub open_shape : Frame → ℕ → Markup
 open_shape frame corner = polyline OPEN.now (open_corners frame corner)
 
--- the shape of a bar with that end
+-- the shape of a bar whose call is answered there or pending
 abbrev pub shape_of : Option ℕ → Frame → ℕ → Markup
 shape_of None frame corner = open_shape frame corner
 shape_of (Some place) frame corner = shut_shape frame corner
 
 module _ (scene : Scene) where
-  -- the bottom of a bar with that end: in the row of the end, or at the floor
-  abbrev pub bottom_of : Option ℕ → ℕ
-  bottom_of None = down FLOOR (rows_of scene)
-  bottom_of (Some place) = down BAR_FOOT (row_of_place scene place)
+  -- the bottom of the bar of a pending call with that end: below the rows up to the end; without
+  -- one at the floor
+  abbrev pub open_bottom : Option ℕ → ℕ
+  open_bottom None = down FLOOR (rows_of scene)
+  open_bottom (Some place) = down OPEN_FOOT (rows_up_to scene place)
+
+  -- the bottom of a bar with that response, in whose row it ends, or else with that end
+  abbrev pub bottom_of : Option ℕ → Option ℕ → ℕ
+  bottom_of None ends = open_bottom ends
+  bottom_of (Some place) ends = down BAR_FOOT (row_of_place scene place)
 
   -- where a bar stands: in its lane's column, from the row of its begin down
   abbrev pub frame_of : Bar → Frame
@@ -56,9 +64,9 @@ module _ (scene : Scene) where
     left = across scene BAR_LEFT (column_of scene bar.lane);
     right = across scene (BAR_LEFT + (column_width scene - BAR_MARGINS)) (column_of scene bar.lane);
     top = down BAR_TOP (row_of_place scene bar.begins);
-    bottom = bottom_of bar.ends;
+    bottom = bottom_of bar.answered bar.ends;
   }
 
   -- the shape of a bar, with so round corners
   abbrev pub shape : Bar → ℕ → Markup
-  shape bar corner = shape_of bar.ends (frame_of bar) corner
+  shape bar corner = shape_of bar.answered (frame_of bar) corner

@@ -28,6 +28,10 @@ ticks_up_to ticks place = count_by (λ tick. nat_le tick place) ticks
 abbrev pub dots_before : List Dot → ℕ → ℕ
 dots_before dots place = count_by (λ dot. nat_lt dot.place place) dots
 
+-- how many of the dots don't stand after the place
+abbrev pub dots_up_to : List Dot → ℕ → ℕ
+dots_up_to dots place = count_by (λ dot. nat_le dot.place place) dots
+
 -- how many of the gaps don't begin after the place
 abbrev pub gaps_up_to : List Gap → ℕ → ℕ
 gaps_up_to gaps place = count_by (λ gap. nat_le gap.place place) gaps
@@ -53,6 +57,11 @@ module _ (scene : Scene) where
   -- there
   abbrev pub row_of_place : ℕ → ℕ
   row_of_place place = ticks_before scene.ticks.items place + dots_before scene.dots.items place
+      + gaps_up_to scene.gaps.items place
+
+  -- how many rows there are up to a place
+  abbrev pub rows_up_to : ℕ → ℕ
+  rows_up_to place = ticks_up_to scene.ticks.items place + dots_up_to scene.dots.items place
       + gaps_up_to scene.gaps.items place
 
   -- the row of the dot of that index, at its place: below the ticks and the gaps up to there, and

@@ -8,6 +8,7 @@ pub mod Dots
 pub mod Frames
 pub mod Readable
 pub mod Texts
+pub mod Arrows
 pub mod Pictures
 pub mod Tables
 pub mod Sheets

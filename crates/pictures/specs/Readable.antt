@@ -5,7 +5,8 @@ use Rattle.labels.specs.Places.{farthest}
 use Rattle.scenes.specs.declared.scene.Bar.{Bar}
 use Rattle.scenes.specs.declared.scene.Scene.{Scene}
 use Rattle.pictures.specs.declared.sizes.TheConstants.{DOT_RADIUS, LETTER, TEXT_LEFT}
-use Rattle.pictures.specs.declared.style.TheConstants.{ALL_KEYS, ANSWER, ANSWERS}
+use Rattle.pictures.specs.declared.style.TheConstants.{ALL_KEYS, ANSWER, ANSWERS, ARROW}
+use Rattle.pictures.specs.declared.style.TheConstants.{BEFORE, BEFORE_WORD}
 use Rattle.pictures.specs.declared.style.TheConstants.{BEGINS_HEADING, CALLS}
 use Rattle.pictures.specs.declared.style.TheConstants.{ANSWERED_HEADING, ANSWER_HEADING}
 use Rattle.pictures.specs.declared.style.TheConstants.{CALL_HEADING, CALL_SIGN, CLIENT}
@@ -29,9 +30,10 @@ pub record IsWithinReach (frame : Frame) : Type 0 where
   pub right : frame.right < farthest
   pub bottom : frame.bottom < farthest
 
--- the bar's end, if it has one, is a tick
+-- the response of the bar's call, if it has one, is a tick, and the bar's end
 abbrev pub HasTick : Scene → Bar → Type 0
-HasTick scene bar = (end : ℕ) → bar.ends ≡ Some end → Contains scene.ticks.items end
+HasTick scene bar = (place : ℕ) → bar.answered ≡ Some place
+    → Contains scene.ticks.items place × (bar.ends ≡ Some place)
 
 -- the circle of a dot about that place lies strictly within the frame
 pub record HasCircle (frame : Frame) (x y : ℕ) : Type 0 where
@@ -51,7 +53,7 @@ abbrev pub class_names : List (List ℕ)
 class_names = PICTURE.now ∷ LANE.now ∷ CLIENT.now ∷ TICK.now ∷ LINE.now ∷ PATH.now ∷ DOT.now
     ∷ NUMBER.now ∷ READ.now ∷ WRITE.now ∷ FAULTY_READ.now ∷ FAULTY_WRITE.now ∷ OPEN.now
     ∷ DOES.now ∷ NOTED.now ∷ ANSWERS.now ∷ LEGEND.now ∷ CALLS.now ∷ NAMES.now ∷ LINES.now
-    ∷ GAP.now ∷ OMITTED.now ∷ ROWS.now ∷ []
+    ∷ GAP.now ∷ OMITTED.now ∷ ROWS.now ∷ ARROW.now ∷ BEFORE.now ∷ []
 
 -- what a legend says of the kinds of bars
 abbrev pub legend_words : List (List ℕ)
@@ -70,4 +72,5 @@ call_phrases = READS.now ∷ WRITES.now ∷ NOTES.now ∷ ANSWER.now ∷ DONE.no
 abbrev pub other_words : List (List ℕ)
 other_words = TITLE.now ∷ ALL_KEYS.now ∷ CLIENT_WORD.now ∷ CLIENTS_WORD.now ∷ CLIENT_SIGN.now
     ∷ OF_CLIENTS.now ∷ COMMA.now ∷ LINE_WORD.now ∷ CALL_SIGN.now ∷ TABLE_TITLE.now ∷ TABLE_OF.now
-    ∷ FAULT_SIGN.now ∷ GAP_SIGN.now ∷ GAP_CALL.now ∷ GAP_CALLS.now ∷ []
+    ∷ FAULT_SIGN.now ∷ GAP_SIGN.now ∷ GAP_CALL.now ∷ GAP_CALLS.now
+    ∷ BEFORE_WORD.now ∷ []

@@ -1,6 +1,7 @@
 -- What stays in sight while a picture scrolls: a strip with the clients' names above, and one with
 -- the lines of the history file at the left. Places are those of the picture that they lie upon.
-use Rattle.std.specs.Prelude.{ℕ, ◌==◌, ◌+◌, ◌*◌, List, [], ◌∷◌, ◌++◌, decimal, if◌then◌else◌, length}
+use Rattle.std.specs.Prelude.{ℕ, ◌==◌, ◌+◌, ◌*◌, List, [], ◌∷◌, ◌++◌, decimal, length}
+use Rattle.std.specs.Prelude.{if◌then◌else◌}
 use Rattle.markup.specs.Markup.{Markup, NamedText, all_tenths_text, element, both, each}
 use Rattle.markup.specs.declared.names.AttributeName.TheVariants as name
 use Rattle.markup.specs.declared.names.Element.TheVariants as tag

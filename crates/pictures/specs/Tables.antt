@@ -65,7 +65,7 @@ call_cells faulty name call = both (row_heading (numbered_words faulty [] call.o
 abbrev pub line_cells : HallRows → Bar → Call → Markup
 line_cells hall bar call = both (cell (note_words call.note))
     (both (cell (line_words hall (Some bar.begins)))
-    (both (cell (line_words hall bar.note)) (cell (line_words hall bar.ends))))
+    (both (cell (line_words hall bar.note)) (cell (line_words hall bar.answered))))
 
 -- what is shown of a folded table
 abbrev pub summary : Markup

@@ -14,7 +14,9 @@ use Rattle.explanations.specs.Sentences.{line_at}
 use Rattle.explanations.specs.declared.hall_rows.HallRows.{HallRows}
 use Rattle.pictures.specs.declared.style.TheConstants.{ANSWER, BLANK, CALL_SIGN, CLIENT_SIGN}
 use Rattle.pictures.specs.declared.style.TheConstants.{COLON, DONE}
-use Rattle.pictures.specs.declared.style.TheConstants.{FAULT_SIGN, NOT_ANSWERED, READS, WRITES}
+use Rattle.pictures.specs.declared.style.TheConstants.{FAULT_SIGN, NOT_ANSWERED, PLACE_CLOSES}
+use Rattle.pictures.specs.declared.style.TheConstants.{PLACE_OPENS, READS, WRITES}
+use Rattle.pictures.specs.declared.words.Signs.{Signs}
 
 -- words that are left out where there is little room
 abbrev pub unless : Bool → List ℕ → List ℕ
@@ -47,11 +49,18 @@ abbrev pub client_sign : Bool → ℕ → List ℕ
 client_sign shared client =
     if shared then CLIENT_SIGN.now ++ decimal client ++ BLANK.now else []
 
--- a call's number, its client in a shared column, the name of its key, and what it does
-abbrev pub begin_words : Bool → Bool → Bool → List ℕ → Call → List ℕ
-begin_words faulty shared briefly name call =
-    numbered_words faulty CALL_SIGN.now call.op ++ BLANK.now ++ client_sign shared call.client
-    ++ name_words name ++ action_words briefly call.action
+-- a place in an order and a blank, if there is one
+abbrev pub place_sign : Option ℕ → List ℕ
+place_sign None = []
+place_sign (Some place) = PLACE_OPENS.now ++ decimal place ++ PLACE_CLOSES.now
+
+-- a call's number, its place in a refused order, its client in a shared column, the name of its
+-- key, and what it does
+abbrev pub begin_words : Signs → Bool → List ℕ → Call → List ℕ
+begin_words signs briefly name call =
+    numbered_words signs.faulty CALL_SIGN.now call.op ++ BLANK.now ++ place_sign signs.place
+    ++ client_sign signs.shared call.client ++ name_words name
+    ++ action_words briefly call.action
 
 -- what a response answers
 abbrev pub returned_words : Returned → List ℕ

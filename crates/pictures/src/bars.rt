@@ -9,7 +9,7 @@ use crate::frames::{append_shape, corner_of};
 use crate::picture::Picture;
 use crate::texts::BarTexts;
 use explanations::append_call;
-use labels::{Shape, append_title};
+use labels::{IndexedShape, append_title};
 use markup::{Attribute, AttributeName, Element, append_closing, append_opening};
 use recorder::Call;
 use scenes::Bar;
@@ -49,14 +49,14 @@ fn open_bar(page: &mut Vec<u8>, picture: &Picture<'_>, call: &Call<'_>) -> Resul
     append_opening(page, Element::G, &[id, class])
 }
 
-impl Shape for Bars<'_> {
+impl IndexedShape for Bars<'_> {
     type Item = Bar;
 
-    ghost can_append = { λ bars. IsInOrder bars.picture.now.scene.now };
+    ghost can_append = { λ bars index. IsInOrder bars.picture.now.scene.now };
 
     ghost shape = { λ bars. bar_markup bars.picture.now };
 
-    fn append(&self, page: &mut Vec<u8>, item: &Bar) -> Result<(), Memory> {
+    fn append(&self, page: &mut Vec<u8>, index: usize, item: &Bar) -> Result<(), Memory> {
         let Some(call) = self.picture.call_of(item.call) else {
             return Ok(());
         };
@@ -70,9 +70,9 @@ impl Shape for Bars<'_> {
             alloc: self.alloc,
             scene: self.picture.scene,
             name: self.picture.keys.said_key(key),
-            faulty: self.picture.is_faulty(call.op),
         };
-        texts.append(page, item, &call)?;
+        let faulty = self.picture.is_faulty(call.op);
+        texts.append(page, item, faulty, self.picture.place_of(index), &call)?;
         append_closing(page, Element::G)
     }
 }

@@ -3,10 +3,13 @@ ghost use Rattle.std.specs.Prelude.{◌≡◌, ◌++◌, OnOk};
 ghost use Rattle.markup.specs.Markup.{rendered};
 ghost use Rattle.labels.specs.Places.{IsNear, IsNearFrame};
 ghost use Rattle.pictures.specs.Layout.{IsInOrder};
-ghost use Rattle.pictures.specs.Frames.{bottom_of, corner_of, frame_of, open_corners, shape, shut_shape};
+ghost use Rattle.pictures.specs.Frames.{bottom_of, corner_of, frame_of, open_bottom, open_corners};
+ghost use Rattle.pictures.specs.Frames.{shape, shut_shape};
 
-use crate::layout::{across, column_of, column_width, down, row_of_place, rows_of};
-use crate::sizes::{BAR_FOOT, BAR_LEFT, BAR_MARGINS, BAR_TOP, FLOOR, READ_CORNER, WRITE_CORNER};
+use crate::layout::{across, column_of, column_width, down, row_of_place, rows_of, rows_up_to};
+use crate::sizes::{
+    BAR_FOOT, BAR_LEFT, BAR_MARGINS, BAR_TOP, FLOOR, OPEN_FOOT, READ_CORNER, WRITE_CORNER,
+};
 use crate::style::OPEN;
 use labels::{Frame, append_polyline};
 use markup::{Attribute, AttributeName, Element, append_empty};
@@ -14,20 +17,32 @@ use recorder::ActionRef;
 use scenes::{Bar, Scene};
 use tag::Memory;
 
-/// The bottom of a bar with that end.
-fn bottom_of(scene: &Scene, ends: Option<usize>) -> u64
+/// The bottom of the bar of a pending call with that end.
+fn open_bottom(scene: &Scene, ends: Option<usize>) -> u64
     requires { IsInOrder scene.now }
-    ensures bottom { result ≡ bottom_of scene.now ends }
+    ensures bottom { result ≡ open_bottom scene.now ends }
     ensures near { IsNear result }
 {
     match ends {
-        Some(place) => down(BAR_FOOT, row_of_place(scene, place)),
+        Some(place) => down(OPEN_FOOT, rows_up_to(scene, place)),
         None => down(FLOOR, rows_of(scene)),
     }
 }
 
+/// The bottom of a bar with that response and that end.
+fn bottom_of(scene: &Scene, answered: Option<usize>, ends: Option<usize>) -> u64
+    requires { IsInOrder scene.now }
+    ensures bottom { result ≡ bottom_of scene.now answered ends }
+    ensures near { IsNear result }
+{
+    match answered {
+        Some(place) => down(BAR_FOOT, row_of_place(scene, place)),
+        None => open_bottom(scene, ends),
+    }
+}
+
 /// Where the bar stands.
-fn frame_of(scene: &Scene, bar: &Bar) -> Frame
+pub(crate) fn frame_of(scene: &Scene, bar: &Bar) -> Frame
     requires { IsInOrder scene.now }
     ensures frame { result ≡ frame_of scene.now bar.now }
     ensures near { IsNearFrame result }
@@ -38,7 +53,7 @@ fn frame_of(scene: &Scene, bar: &Bar) -> Frame
         left: across(scene, BAR_LEFT, column),
         right: across(scene, BAR_LEFT + width, column),
         top: down(BAR_TOP, row_of_place(scene, bar.begins)),
-        bottom: bottom_of(scene, bar.ends),
+        bottom: bottom_of(scene, bar.answered, bar.ends),
     }
 }
 
@@ -97,7 +112,7 @@ pub(crate) fn append_shape(
         (page.new.items ≡ page.old.items ++ rendered (shape scene.now bar.now corner)) }
 {
     let frame = frame_of(scene, bar);
-    match bar.ends {
+    match bar.answered {
         Some(_) => append_shut(page, frame, corner),
         None => append_polyline(page, OPEN, &open_corners(frame, corner)),
     }

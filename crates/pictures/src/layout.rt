@@ -2,9 +2,10 @@
 ghost use Rattle.std.specs.Prelude.{◌≡◌, ◌<◌, ◌≤◌, length, map};
 ghost use Rattle.std.specs.List.Sorted.{IsNonDecreasing, IsStrictlyIncreasing};
 ghost use Rattle.labels.specs.Places.{IsNear};
-ghost use Rattle.pictures.specs.Layout.{IsInOrder, across, column_of, column_width, dots_before, down};
-ghost use Rattle.pictures.specs.Layout.{gaps_up_to, is_shared, room_of, row_of_dot, row_of_gap, row_of_place};
-ghost use Rattle.pictures.specs.Layout.{rows_of, ticks_before, ticks_up_to};
+ghost use Rattle.pictures.specs.Layout.{IsInOrder, across, column_of, column_width, dots_before};
+ghost use Rattle.pictures.specs.Layout.{dots_up_to, down, gaps_up_to, is_shared, room_of, row_of_dot};
+ghost use Rattle.pictures.specs.Layout.{row_of_gap, row_of_place, rows_of, rows_up_to, ticks_before};
+ghost use Rattle.pictures.specs.Layout.{ticks_up_to};
 
 use crate::sizes::{COLUMNS, LETTER, MARGINS, NARROWEST, ROW, WIDEST};
 use labels::pixels;
@@ -88,6 +89,15 @@ fn dots_before(dots: &[Dot], place: usize) -> usize
     dots.partition_point(|dot| dot.place < place)
 }
 
+/// How many of the dots don't stand after the place.
+fn dots_up_to(dots: &[Dot], place: usize) -> usize
+    requires { IsNonDecreasing (map (λ dot. dot.place) dots.now) }
+    ensures count { result ≡ dots_up_to dots.now place }
+    ensures bound { result ≤ length dots.now }
+{
+    dots.partition_point(|dot| dot.place <= place)
+}
+
 /// How many of the gaps don't begin after the place.
 fn gaps_up_to(gaps: &[Gap], place: usize) -> usize
     requires { IsStrictlyIncreasing (map (λ gap. gap.place) gaps.now) }
@@ -104,6 +114,16 @@ pub(crate) fn row_of_place(scene: &Scene, place: usize) -> usize
 {
     ticks_before(&scene.ticks, place)
         + dots_before(&scene.dots, place)
+        + gaps_up_to(&scene.gaps, place)
+}
+
+/// How many rows there are up to that place.
+pub(crate) fn rows_up_to(scene: &Scene, place: usize) -> usize
+    requires { IsInOrder scene.now }
+    ensures { result ≡ rows_up_to scene.now place }
+{
+    ticks_up_to(&scene.ticks, place)
+        + dots_up_to(&scene.dots, place)
         + gaps_up_to(&scene.gaps, place)
 }
 

@@ -9,6 +9,7 @@
 //! the logarithm of that and of the key's calls.
 #![tactic(auto, unfolding(markup::specs::Markup::rendered))]
 
+mod arrows;
 mod bars;
 mod boxes;
 mod cells;

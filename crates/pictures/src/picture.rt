@@ -2,10 +2,13 @@
 ghost use Rattle.std.specs.Prelude.{◌≡◌, ◌++◌, OnOk, option_map};
 ghost use Rattle.markup.specs.Markup.{opening_tag, rendered};
 ghost use Rattle.markup.specs.declared.names.Element.TheVariants as tag;
+ghost use Rattle.labels.specs.Places.{IsNear};
 ghost use Rattle.pictures.specs.Layout.{IsInOrder};
-ghost use Rattle.pictures.specs.Pictures.{call_of, calls_markup, class_of, foot, ground, is_faulty};
-ghost use Rattle.pictures.specs.Pictures.{own_key, picture_markup, svg, svg_attributes};
+ghost use Rattle.pictures.specs.Pictures.{call_of, calls_markup, class_of, end_of, foot, ground};
+ghost use Rattle.pictures.specs.Pictures.{is_faulty, own_key, picture_markup, place_of, svg};
+ghost use Rattle.pictures.specs.Pictures.{svg_attributes};
 
+use crate::arrows::append_arrow;
 use crate::bars::Bars;
 use crate::boxes::{append_named, open_box};
 use crate::dots::Dots;
@@ -13,7 +16,7 @@ use crate::ground::{Gaps, Guides, Ticks};
 use crate::keys::CallKeys;
 use crate::layout::{across, down, rows_of};
 use crate::path::append_path;
-use crate::sizes::{BOTTOM, FOOT_BASE, LONG, RIGHT};
+use crate::sizes::{ARROW_END, BOTTOM, FOOT_BASE, LONG, RIGHT};
 use crate::strips::{Names, append_lines, append_names};
 use crate::style::{FAULTY_READ, FAULTY_WRITE, PICTURE, READ, TITLE, WRITE};
 use certificate_check::find_call;
@@ -21,7 +24,7 @@ use explanations::HallRows;
 use labels::{append_each, append_each_indexed, open_image};
 use markup::{Element, append_closing};
 use recorder::{Call, Part};
-use scenes::Scene;
+use scenes::{Arrow, Scene};
 use std::alloc::Global;
 use tag::{Key, Memory, OpId};
 
@@ -38,6 +41,12 @@ pub struct Picture<'a> {
     pub faulty: &'a [OpId],
     /// What the ids of bars begin with; a call's number follows.
     pub ids: &'a str,
+    /// Beside each bar the place of its call in an order that is refused, if it has one; of a key that
+    /// has no such order nothing.
+    pub places: &'a [Option<usize>],
+    /// The arrow from a call to one that a refused order lists before it though it began after that one
+    /// had ended, if the order is refused for that.
+    pub before: Option<Arrow>,
 }
 
 impl<'a> Picture<'a> {
@@ -46,6 +55,16 @@ impl<'a> Picture<'a> {
         ensures { result ≡ is_faulty self.now op }
     {
         self.faulty.iter().any(|other| other.0 == op.0)
+    }
+
+    /// The place in a refused order of the call of the bar of that index, if there is one.
+    pub(crate) fn place_of(&self, index: usize) -> Option<usize>
+        ensures { result ≡ place_of self.now index }
+    {
+        match self.places.get(index) {
+            Some(place) => *place,
+            None => None,
+        }
     }
 
     /// The class of what is drawn of the call.
@@ -102,7 +121,7 @@ fn append_ground(alloc: Global, page: &mut Vec<u8>, scene: &Scene) -> Result<(),
     append_each_indexed(page, &Gaps { scene }, &scene.gaps)
 }
 
-/// Adds the line that joins the dots, the bars above it, and the dots above these.
+/// Adds the line that joins the dots, the bars above it, and the dots and the arrow above these.
 fn append_calls(alloc: Global, page: &mut Vec<u8>, picture: &Picture<'_>) -> Result<(), Memory>
     requires { IsInOrder picture.now.scene.now }
     ensures { OnOk result
@@ -110,17 +129,28 @@ fn append_calls(alloc: Global, page: &mut Vec<u8>, picture: &Picture<'_>) -> Res
 {
     let scene = picture.scene;
     append_path(alloc, page, scene)?;
-    append_each(page, &Bars { alloc, picture }, &scene.bars)?;
-    append_each_indexed(page, &Dots { alloc, scene }, &scene.dots)
+    append_each_indexed(page, &Bars { alloc, picture }, &scene.bars)?;
+    append_each_indexed(page, &Dots { alloc, scene }, &scene.dots)?;
+    append_arrow(alloc, page, scene, picture.before)
+}
+
+/// Where the picture ends in the column after the last.
+fn end_of(scene: &Scene, arrow: Option<Arrow>) -> u64
+    ensures end { result ≡ end_of scene.now arrow }
+    ensures near { IsNear result }
+{
+    match arrow {
+        None => across(scene, RIGHT, scene.columns.len()),
+        Some(_) => across(scene, ARROW_END, scene.columns.len()),
+    }
 }
 
 /// Opens the picture's element.
-fn open_svg(page: &mut Vec<u8>, scene: &Scene) -> Result<(), Memory>
+fn open_svg(page: &mut Vec<u8>, scene: &Scene, arrow: Option<Arrow>) -> Result<(), Memory>
     ensures { OnOk result (page.new.items
-        ≡ page.old.items ++ opening_tag tag.Svg (svg_attributes scene.now)) }
+        ≡ page.old.items ++ opening_tag tag.Svg (svg_attributes scene.now arrow)) }
 {
-    let width = across(scene, RIGHT, scene.columns.len());
-    open_image(page, width, down(BOTTOM, rows_of(scene)))
+    open_image(page, end_of(scene, arrow), down(BOTTOM, rows_of(scene)))
 }
 
 /// Adds the picture's element: its title, the ground, and the calls.
@@ -128,7 +158,7 @@ fn append_svg(alloc: Global, page: &mut Vec<u8>, picture: &Picture<'_>) -> Resul
     requires { IsInOrder picture.now.scene.now }
     ensures { OnOk result (page.new.items ≡ page.old.items ++ rendered (svg picture.now)) }
 {
-    open_svg(page, picture.scene)?;
+    open_svg(page, picture.scene, picture.before)?;
     append_named(page, Element::Title, picture.keys)?;
     append_ground(alloc, page, picture.scene)?;
     append_calls(alloc, page, picture)?;

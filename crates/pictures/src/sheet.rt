@@ -53,6 +53,9 @@ stroke-width:3}\
 .picture .does{font-weight:bold}.picture .noted{fill:var(--soft)}\
 .picture .faulty .noted,.picture .faulty .answers{fill:var(--ink);font-weight:bold}\
 .path{fill:none;stroke:var(--ink);stroke-width:2;stroke-linejoin:round}\
+.arrow{fill:none;stroke:var(--fault-edge);stroke-width:2}\
+.picture .before{fill:var(--fault-edge);font-weight:bold;stroke:var(--paper);stroke-width:4px;\
+paint-order:stroke}\
 .dot{fill:var(--dot)}.picture .number{font-weight:bold}\
 summary{cursor:pointer;color:var(--soft)}.rows{overflow-x:auto}\
 .rows caption{text-align:left;color:var(--soft)}\
@@ -69,7 +72,8 @@ details::details-content{display:block;height:auto;content-visibility:visible}}"
 pub(crate) const LEGEND_WORDS: &str =
     " Time goes down; each client has a column, and each call a bar from the line of the history \
 where it begins to the line where it is answered. Of more than 16 clients some share a column; then \
-c7 in a bar is its client. At its end a bar says what the call answers.";
+c7 in a bar is its client, and a bar without a lower edge goes no further than what is known of its \
+call. At its end a bar says what the call answers.";
 
 /// What it says of tags.
 pub(crate) const LEGEND_TAGS: &str =
@@ -80,7 +84,9 @@ wrote. A greater tag is a newer value, and (0, 0) is the tag before the first wr
 pub(crate) const LEGEND_VERDICTS: &str =
     " A key is a yes, or atomic, if its calls can have taken effect one after another, each at the \
 dot in its bar, in the order of the numbers beside the dots, which count from 0. Of a no, or of a \
-key that is not atomic, the calls marked \u{2717} are why. \u{22ee} says how many calls are left out.";
+key that is not atomic, the calls marked \u{2717} are why. If its order was given, [2] in a bar is the \
+call\u{2019}s place in that order; an arrow leads from a call that had ended to one that began later, \
+though the order lists that one before it. \u{22ee} says how many calls are left out.";
 
 /// Adds the style sheet, which belongs into the page's `head`: for light and dark windows, and for
 /// paper. Beside pictures and tables it has colours for the classes `yes` and `no`.

@@ -48,6 +48,24 @@ pub(crate) const LINE_LETTERS: u64 = 15;
 /// In the column after the last: the end of the picture.
 pub(crate) const RIGHT: u64 = 100;
 
+/// The same of a picture with an arrow: its word has room beside the last column.
+pub(crate) const ARROW_END: u64 = 144;
+
+/// How far an arrow's tip stands from the left side of a bar that it comes to from the right.
+pub(crate) const ARROW_LEFT: u64 = 12;
+
+/// How far an arrow's tip stands from the right side of any other bar.
+pub(crate) const ARROW_RIGHT: u64 = 8;
+
+/// What is free before an arrow's word.
+pub(crate) const WORD_MARGIN: u64 = 6;
+
+/// The height of an arrow's head.
+pub(crate) const HEAD_HEIGHT: u64 = 6;
+
+/// Half its width.
+pub(crate) const HEAD_WIDTH: u64 = 4;
+
 /// Where the first row begins.
 pub(crate) const ROW_TOP: u64 = 26;
 
@@ -68,6 +86,9 @@ pub(crate) const NAMES_BASE: u64 = 16;
 
 /// In the row after the last: where open bars stop.
 pub(crate) const FLOOR: u64 = 36;
+
+/// In the row below those to which it reaches: the bottom of a bar that ends without an edge.
+pub(crate) const OPEN_FOOT: u64 = 22;
 
 /// In the row after the last: the base of the clients' names.
 pub(crate) const FOOT_BASE: u64 = 50;

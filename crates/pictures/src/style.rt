@@ -36,6 +36,10 @@ pub(crate) const FAULTY_WRITE: &str = "write faulty";
 
 pub(crate) const OPEN: &str = "open";
 
+pub(crate) const ARROW: &str = "arrow";
+
+pub(crate) const BEFORE: &str = "before";
+
 pub(crate) const DOES: &str = "does";
 
 pub(crate) const NOTED: &str = "noted";
@@ -63,6 +67,12 @@ pub(crate) const OF_CLIENTS: &str = " clients";
 pub(crate) const COMMA: &str = ", ";
 
 pub(crate) const CLIENT_SIGN: &str = "c";
+
+pub(crate) const PLACE_OPENS: &str = "[";
+
+pub(crate) const PLACE_CLOSES: &str = "] ";
+
+pub(crate) const BEFORE_WORD: &str = "before";
 
 pub(crate) const LINE_WORD: &str = "line ";
 

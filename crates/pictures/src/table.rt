@@ -93,7 +93,7 @@ fn append_line_cells(
     append_words(page, &note)?;
     append_line(alloc, page, hall, Some(bar.begins))?;
     append_line(alloc, page, hall, bar.note)?;
-    append_line(alloc, page, hall, bar.ends)
+    append_line(alloc, page, hall, bar.answered)
 }
 
 impl Shape for Rows<'_> {

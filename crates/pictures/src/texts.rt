@@ -3,12 +3,12 @@ ghost use Rattle.std.specs.Prelude.{◌≡◌, ◌++◌, IfOk, OnOk};
 ghost use Rattle.markup.specs.Markup.{rendered};
 ghost use Rattle.pictures.specs.Layout.{IsInOrder};
 ghost use Rattle.pictures.specs.Texts.{fitted_words, if_any, text_at, text_class, text_words};
-ghost use Rattle.pictures.specs.Texts.{texts};
+ghost use Rattle.pictures.specs.Texts.{signs_of, texts, texts_in};
 
 use crate::layout::{across, column_of, down, is_shared, room_of, row_of_place};
 use crate::sizes::{TEXT_BASE, TEXT_LEFT};
 use crate::style::{ANSWERS, DOES, NOTED, NOTES};
-use crate::words::{say_begin, say_end, say_note, say_unless};
+use crate::words::{Signs, say_begin, say_end, say_note, say_unless};
 use labels::{Spot, append_label};
 use recorder::Call;
 use scenes::{Bar, Scene};
@@ -41,17 +41,16 @@ fn text_class(text: BarText) -> &'static str
 fn say_text(
     words: &mut Vec<u8>,
     text: BarText,
-    faulty: bool,
-    shared: bool,
+    signs: Signs,
     briefly: bool,
     name: &str,
     call: &Call<'_>,
 ) -> Result<(), Memory>
     ensures { OnOk result (words.new.items
-        ≡ words.old.items ++ text_words text faulty shared briefly name.now call.now) }
+        ≡ words.old.items ++ text_words text signs briefly name.now call.now) }
 {
     match text {
-        BarText::Begin => say_begin(words, name, call, faulty, shared, briefly),
+        BarText::Begin => say_begin(words, name, call, signs, briefly),
         BarText::Note => {
             say_unless(words, briefly, NOTES)?;
             say_note(words, call.note)
@@ -65,32 +64,40 @@ fn fitted_words(
     alloc: Global,
     room: u64,
     text: BarText,
-    faulty: bool,
-    shared: bool,
+    signs: Signs,
     name: &str,
     call: &Call<'_>,
 ) -> Result<Vec<u8>, Memory>
     ensures { IfOk result
-        (λ words. words.items ≡ fitted_words room text faulty shared name.now call.now) }
+        (λ words. words.items ≡ fitted_words room text signs name.now call.now) }
 {
     let mut words = Vec::new(alloc);
-    say_text(&mut words, text, faulty, shared, false, name, call)?;
+    say_text(&mut words, text, signs, false, name, call)?;
     if words.len() as u64 <= room {
         return Ok(words);
     }
     let mut brief = Vec::new(alloc);
-    say_text(&mut brief, text, faulty, shared, true, name, call)?;
+    say_text(&mut brief, text, signs, true, name, call)?;
     Ok(brief)
 }
 
-/// What the texts of a bar say: those of which call, and with which name of its key.
+/// What is said of the bar's call beside what it is.
+fn signs_of(scene: &Scene, faulty: bool, place: Option<usize>, bar: &Bar) -> Signs
+    ensures { result ≡ signs_of scene.now faulty place bar.now }
+{
+    Signs {
+        faulty,
+        shared: is_shared(scene, column_of(scene, bar.lane)),
+        place,
+    }
+}
+
+/// What the texts of bars say: with which name of a call's key.
 #[derive(Clone, Copy)]
 pub(crate) struct BarTexts<'a> {
     pub(crate) alloc: Global,
     pub(crate) scene: &'a Scene,
     pub(crate) name: &'a str,
-    /// Whether the call is at fault.
-    pub(crate) faulty: bool,
 }
 
 impl BarTexts<'_> {
@@ -99,13 +106,14 @@ impl BarTexts<'_> {
         &self,
         page: &mut Vec<u8>,
         column: usize,
+        signs: Signs,
         call: &Call<'_>,
         text: BarText,
         place: Option<usize>,
     ) -> Result<(), Memory>
         requires { IsInOrder self.now.scene.now }
         ensures { OnOk result (page.new.items ≡ page.old.items
-            ++ rendered (if_any (text_at self.now.scene.now text column self.now.faulty
+            ++ rendered (if_any (text_at self.now.scene.now text column signs
             self.now.name.now call.now) place)) }
     {
         let Some(place) = place else {
@@ -116,25 +124,44 @@ impl BarTexts<'_> {
         let y = down(TEXT_BASE, row_of_place(scene, place));
         let room = room_of(scene);
         let spot = Spot::new(text_class(text), x, y, room);
-        let shared = is_shared(scene, column);
-        let words = fitted_words(alloc, room, text, self.faulty, shared, self.name, call)?;
+        let words = fitted_words(alloc, room, text, signs, self.name, call)?;
         append_label(alloc, page, &spot, &words)
     }
 
-    /// Adds the texts of the call's bar.
-    pub(crate) fn append(
+    /// Adds the texts of the call's bar in that column.
+    fn append_in(
         &self,
         page: &mut Vec<u8>,
+        column: usize,
+        signs: Signs,
         bar: &Bar,
         call: &Call<'_>,
     ) -> Result<(), Memory>
         requires { IsInOrder self.now.scene.now }
         ensures { OnOk result (page.new.items ≡ page.old.items ++ rendered
-            (texts self.now.scene.now bar.now self.now.faulty self.now.name.now call.now)) }
+            (texts_in self.now.scene.now column bar.now signs self.now.name.now call.now)) }
+    {
+        self.append_text(page, column, signs, call, BarText::Begin, Some(bar.begins))?;
+        self.append_text(page, column, signs, call, BarText::Note, bar.note)?;
+        self.append_text(page, column, signs, call, BarText::Answer, bar.answered)
+    }
+
+    /// Adds the texts of the call's bar; the call is at fault or not, and has that place in a refused
+    /// order, if any.
+    pub(crate) fn append(
+        &self,
+        page: &mut Vec<u8>,
+        bar: &Bar,
+        faulty: bool,
+        place: Option<usize>,
+        call: &Call<'_>,
+    ) -> Result<(), Memory>
+        requires { IsInOrder self.now.scene.now }
+        ensures { OnOk result (page.new.items ≡ page.old.items ++ rendered
+            (texts self.now.scene.now bar.now faulty place self.now.name.now call.now)) }
     {
         let column = column_of(self.scene, bar.lane);
-        self.append_text(page, column, call, BarText::Begin, Some(bar.begins))?;
-        self.append_text(page, column, call, BarText::Note, bar.note)?;
-        self.append_text(page, column, call, BarText::Answer, bar.ends)
+        let signs = signs_of(self.scene, faulty, place, bar);
+        self.append_in(page, column, signs, bar, call)
     }
 }

@@ -2,10 +2,11 @@
 ghost use Rattle.std.specs.Prelude.{◌≡◌, ◌++◌, OnOk};
 ghost use Rattle.pictures.specs.Words.{action_words, begin_words, client_sign, end_words, fault_sign};
 ghost use Rattle.pictures.specs.Words.{is_written, line_words, name_words, note_words};
-ghost use Rattle.pictures.specs.Words.{numbered_words, response_words, returned_words, unless};
+ghost use Rattle.pictures.specs.Words.{numbered_words, place_sign, response_words, returned_words, unless};
 
 use crate::style::{
-    ANSWER, BLANK, CALL_SIGN, CLIENT_SIGN, COLON, DONE, FAULT_SIGN, NOT_ANSWERED, READS, WRITES,
+    ANSWER, BLANK, CALL_SIGN, CLIENT_SIGN, COLON, DONE, FAULT_SIGN, NOT_ANSWERED, PLACE_CLOSES,
+    PLACE_OPENS, READS, WRITES,
 };
 use explanations::{HallRows, append_value};
 use recorder::{ActionRef, Call, Response, ReturnedRef};
@@ -84,21 +85,46 @@ fn say_client(words: &mut Vec<u8>, client: ClientId, shared: bool) -> Result<(),
     }
 }
 
-/// Adds the call's number, its client in a shared column, the name of its key, and what it does.
+/// What is said of a call beside what it is.
+#[derive(Clone, Copy)]
+pub(crate) struct Signs {
+    /// Whether it is at fault.
+    pub(crate) faulty: bool,
+    /// Whether its column has several clients.
+    pub(crate) shared: bool,
+    /// Its place in an order that is refused.
+    pub(crate) place: Option<usize>,
+}
+
+/// Adds the place in an order and a blank, if there is one.
+fn say_place(words: &mut Vec<u8>, place: Option<usize>) -> Result<(), Memory>
+    ensures { OnOk result (words.new.items ≡ words.old.items ++ place_sign place) }
+{
+    match place {
+        None => Ok(()),
+        Some(place) => {
+            append_number(words, PLACE_OPENS, place as u64)?;
+            append(words, PLACE_CLOSES)
+        }
+    }
+}
+
+/// Adds the call's number, its place in a refused order, its client in a shared column, the name of
+/// its key, and what it does.
 pub(crate) fn say_begin(
     words: &mut Vec<u8>,
     name: &str,
     call: &Call<'_>,
-    faulty: bool,
-    shared: bool,
+    signs: Signs,
     briefly: bool,
 ) -> Result<(), Memory>
     ensures { OnOk result (words.new.items
-        ≡ words.old.items ++ begin_words faulty shared briefly name.now call.now) }
+        ≡ words.old.items ++ begin_words signs briefly name.now call.now) }
 {
-    say_number(words, CALL_SIGN, call.op, faulty)?;
+    say_number(words, CALL_SIGN, call.op, signs.faulty)?;
     append(words, BLANK)?;
-    say_client(words, call.client, shared)?;
+    say_place(words, signs.place)?;
+    say_client(words, call.client, signs.shared)?;
     say_name(words, name)?;
     say_action(words, &call.action, briefly)
 }

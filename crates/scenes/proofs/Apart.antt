@@ -77,8 +77,9 @@ module _ (rows : List Row) (part : List Call) (shown : List ℕ) (order : List O
       (w.0, w.2)
 
   -- of one lane the bar that begins first ends first
-  one_lane : (bar other : Bar) → Beside bar → Beside other → bar.lane ≡ other.lane → bar.begins < other.begins → EndsBefore bar other
-  one_lane bar other a b same less =
+  one_lane : (bar other : Bar) → Contains scene.bars.items bar → Beside bar → Beside other → bar.lane ≡ other.lane → bar.begins < other.begins → EndsBefore bar other
+  one_lane bar other there a b same less =
+      let k = place_of scene.bars.items bar there in
       let call = a.1.0 in
       let next = b.1.0 in
       let here : slice_get lanes other.lane ≡ Some call.client = subst (λ (l : ℕ). slice_get lanes l ≡ Some call.client) same a.1.2.lane in
@@ -86,7 +87,7 @@ module _ (rows : List Row) (part : List Call) (shown : List ℕ) (order : List O
       let own = recorded call (Contains-slice_get part a.0 call a.1.1) in
       let others = recorded next (Contains-slice_get part b.0 next b.1.1) in
       let w = one_at_a_time rows well call next own.0 others.0 own.1 others.1 client (omega (arith, less, a.1.2.begins, b.1.2.begins)) in
-      (w.0, a.1.2.ends ∙ w.1, omega (arith, w.2, b.1.2.begins))
+      (w.0, (is.ends k.0 bar k.1).answered w.0 (a.1.2.answered ∙ w.1), omega (arith, w.2, b.1.2.begins))
 
   -- of two lanes of a column too
   two_lanes : (bar other : Bar) → Contains scene.bars.items bar → Contains scene.bars.items other → (bar.lane ≡ other.lane → ⊥)
@@ -108,7 +109,7 @@ module _ (rows : List Row) (part : List Call) (shown : List ℕ) (order : List O
                 lasting = other;
                 own_too = (too, refl);
                 to_there = λ end ends.
-                    let up = forward part shown rows lanes scene.bars.items sequence selection is.lanes is.bars other too end ends in
+                    let up = forward part shown rows lanes scene.bars.items sequence selection is.lanes is.bars scene.dots.items is.ends other too end ends in
                     omega (arith, up);
               })))
           | inr few ↦
@@ -125,9 +126,9 @@ module _ (rows : List Row) (part : List Call) (shown : List ℕ) (order : List O
       let b = beside other too in
       elim (cases_eq bar.lane other.lane) [
         | inl same ↦ elim (cases_lt bar.begins other.begins) [
-          | inl h ↦ inl (one_lane bar other a b same h)
+          | inl h ↦ inl (one_lane bar other there a b same h)
           | inr h ↦ elim (cases_lt other.begins bar.begins) [
-            | inl g ↦ inr (one_lane other bar b a (sym same) g)
+            | inl g ↦ inr (one_lane other bar too b a (sym same) g)
             | inr g ↦ absurd (differ (one_call a b (omega (arith, g, h, a.1.2.begins, b.1.2.begins))))
           ]
         ]

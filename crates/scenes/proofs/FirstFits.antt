@@ -77,7 +77,7 @@ last_ends_more lanes bars k bar ends own end at within at_own from_own from_bar 
 }
 
 abbrev pub no_bar : Bar
-no_bar = record { call = record { 0 = 0 }; lane = 0; begins = 0; ends = None; note = None }
+no_bar = record { call = record { 0 = 0 }; lane = 0; begins = 0; ends = None; answered = None; note = None }
 
 pub bar_there : (bars : List Bar) (k : ℕ) → k < length bars → slice_get bars k ≡ Some (get_or bars k no_bar)
 bar_there bars k less = slice_get-get_or bars k no_bar less

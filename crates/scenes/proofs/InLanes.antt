@@ -1,5 +1,5 @@
 -- The bars of shown calls are in the lanes of their clients.
-use Rattle.std.proofs.Common.{ℕ, zero, suc, ◌≡◌, ◌<◌, inl, inr, List, [], ◌∷◌, Some, length, refl, sym, ap, ◌∙◌, subst, arith}
+use Rattle.std.proofs.Common.{ℕ, zero, suc, ◌≡◌, ◌<◌, inl, inr, List, [], ◌∷◌, Option, Some, None, ◌≤◌, length, refl, sym, ap, ◌∙◌, subst, arith}
 use Rattle.std.specs.List.{slice_get, Contains, AllZip}
 use Rattle.std.specs.List.Sorted.{IsStrictlyIncreasing}
 use Rattle.std.proofs.lemmas.Bool.{cases_lt}
@@ -11,6 +11,9 @@ use Rattle.recorder.specs.declared.part.Call.{Call}
 use Rattle.recorder.specs.Parts.{IsSequence}
 use Rattle.scenes.specs.declared.scene.Bar.{Bar}
 use Rattle.scenes.specs.FirstFit.{AreInLanes}
+use Rattle.scenes.specs.declared.columns.TheConstants.{OWN_COLUMNS}
+use Rattle.scenes.specs.declared.scene.Dot.{Dot}
+use Rattle.scenes.specs.Ends.{AreEnded, HasItsEnd}
 use Rattle.scenes.specs.Scenes.{AreBarsOf, HasCallOf, IsRisingListOf, IsSelection}
 use Rattle.scenes.proofs.Rising.{rises_in, rises_mapped}
 use Rattle.scenes.proofs.ShownCalls.{IsBarAt, end_there, zip_back}
@@ -35,21 +38,39 @@ one_index list up i j n at_i at_j = elim (cases_lt i j) [
 ]
 
 module _ (part : List Call) (shown : List ℕ) (rows : List Row) (lanes : List ℕ) (bars : List Bar) (sequence : IsSequence part) (selection : IsSelection part shown)
-    (clients : IsRisingListOf (HasCallOf part shown) lanes) (are : AreBarsOf part shown rows lanes bars) where
+    (clients : IsRisingListOf (HasCallOf part shown) lanes) (are : AreBarsOf part shown rows lanes bars) (dots : List Dot) (ended : AreEnded dots (length lanes) bars) where
   beside : (bar : Bar) → Contains bars bar → (k : ℕ) × (i : ℕ) × (slice_get bars k ≡ Some bar) × (slice_get shown k ≡ Some i) × IsBarAt part rows lanes i bar
   beside bar there =
       let k = place_of bars bar there in
       let w = zip_back (IsBarAt part rows lanes) shown bars k.0 bar are k.1 in
       (k.0, w.0, k.1, w.1, w.2)
 
+  by_answer : (bar : Bar) (end index : ℕ) → bar.ends ≡ Some end → HasItsEnd dots index (length lanes) bar
+      → ((place : ℕ) → bar.answered ≡ Some place → bar.begins < place) → (answer : Option ℕ) → bar.answered ≡ answer → bar.begins ≤ end
+  by_answer bar end index ends own later (Some place) answered =
+      let up = later place answered in
+      let same : place ≡ end = same_Some place end (sym (own.answered place answered) ∙ ends) in
+      omega (arith, up, same)
+  by_answer bar end index ends own later None pending = elim (cases_lt OWN_COLUMNS (length lanes)) [
+    | inl many ↦
+        let s = own.short many pending in
+        let same : s.0 ≡ end = same_Some s.0 end (sym s.1 ∙ ends) in
+        let low = s.2.last bar.begins (inl refl) in
+        omega (arith, low, same)
+    | inr few ↦ none_some (sym (own.endless few pending) ∙ ends)
+  ]
+
   -- a bar doesn't end before it begins
-  pub forward : (bar : Bar) → Contains bars bar → (end : ℕ) → bar.ends ≡ Some end → bar.begins < end
+  pub forward : (bar : Bar) → Contains bars bar → (end : ℕ) → bar.ends ≡ Some end → bar.begins ≤ end
   forward bar there end ends =
       let w = beside bar there in
       let is = w.4 in
-      let r = end_there is.0.response end (sym is.2.ends ∙ ends) in
+      by_answer bar end w.0 ends (ended w.0 bar w.2)
+      (λ place answered.
+      let r = end_there is.0.response place (sym is.2.answered ∙ answered) in
       let up : is.0.invoked < r.0.place = sequence.responses is.0 r.0 (Contains-slice_get part w.1 is.0 is.1) r.1 in
-      omega (arith, up, is.2.begins, r.2)
+      omega (arith, up, is.2.begins, r.2))
+      bar.answered refl
 
   pub in_lanes : AreInLanes (length lanes) bars
   in_lanes = record {
@@ -69,5 +90,5 @@ module _ (part : List Call) (shown : List ℕ) (rows : List Row) (lanes : List �
         let up : first.0 < second.0 = rises_in shown selection.rising i j first.0 second.0 less first.1 second.1 in
         let places : first.2.0.invoked < second.2.0.invoked = sequence.places first.0 second.0 first.2.0 second.2.0 up first.2.1 second.2.1 in
         omega (arith, places, first.2.2.begins, second.2.2.begins));
-    forward = λ bar there end ends. let up = forward bar there end ends in omega (arith, up);
+    forward = forward;
   }

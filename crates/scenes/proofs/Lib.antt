@@ -1,6 +1,7 @@
 pub mod Rising
 pub mod Just
 pub mod ShownCalls
+pub mod Ending
 pub mod OrderDots
 pub mod Around
 pub mod Overlaps
@@ -9,3 +10,4 @@ pub mod FirstFits
 pub mod ColumnClients
 pub mod InLanes
 pub mod Apart
+pub mod Places

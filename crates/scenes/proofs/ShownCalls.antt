@@ -22,6 +22,8 @@ use Rattle.scenes.specs.declared.scene.Bar.{Bar}
 use Rattle.scenes.specs.declared.scene.Dot.{Dot}
 use Rattle.scenes.specs.declared.scene.Scene.{Scene}
 use Rattle.linearization_points.specs.Points.{ArePoints}
+use Rattle.scenes.specs.declared.columns.TheConstants.{OWN_COLUMNS}
+use Rattle.scenes.specs.Ends.{HasDotAt, HasItsEnd}
 use Rattle.scenes.specs.Scenes.{IsSelection, HasCallOf, IsBarOf, AreBarsOf, IsDotOf, IsPlaceIn, IsSceneOf}
 
 -- the clients of one call more
@@ -82,6 +84,23 @@ pub end_there : (response : Option Response) (end : ℕ) → option_map (λ (r :
 end_there None end is = none_some is
 end_there (Some r) end is = (r, refl, same_Some r.place end is)
 
+-- a place before the response and not after the marks isn't after the end
+pub not_after : (dots : List Dot) (index lanes place : ℕ) (bar : Bar) → HasItsEnd dots index lanes bar → HasDotAt dots index place
+    → ((answer : ℕ) → bar.answered ≡ Some answer → place < answer) → (end : ℕ) → bar.ends ≡ Some end
+    → (answer : Option ℕ) → bar.answered ≡ answer → place ≤ end
+not_after dots index lanes place bar own has before end ends (Some answer) answered =
+    let less = before answer answered in
+    let same : answer ≡ end = same_Some answer end (sym (own.answered answer answered) ∙ ends) in
+    omega (arith, less, same)
+not_after dots index lanes place bar own has before end ends None pending = elim (cases_lt OWN_COLUMNS lanes) [
+  | inl many ↦
+      let s = own.short many pending in
+      let same : s.0 ≡ end = same_Some s.0 end (sym s.1 ∙ ends) in
+      let low = s.2.last place (inr (inr has)) in
+      omega (arith, low, same)
+  | inr few ↦ none_some (sym (own.endless few pending) ∙ ends)
+]
+
 module _ (rows : List Row) (part : List Call) (shown : List ℕ) (order : List OpId) (points : List ℕ) (scene : Scene) where
   -- the dot of a bar lies within it, since the point lies within the call
   pub within_bar : (dot : Dot) (bar : Bar) → ArePoints part order points → IsSceneOf part shown rows order points scene
@@ -95,12 +114,17 @@ module _ (rows : List Row) (part : List Call) (shown : List ℕ) (order : List O
       let number : has.0.call ≡ call.op = ap (λ (b : Bar). b.call) same ∙ drawn.call_is in
       let listed : slice_get order dot.number ≡ Some call.op = has.2 ∙ ap Some number in
       let recorded = Contains-slice_get part beside.0 call beside.2.1 in
-      let within = are.within dot.number dot.place call has.3 (record { listed = listed; recorded = recorded }) in (
-        subst (λ (n : ℕ). n ≤ dot.place) (sym drawn.begins) within.0,
-        λ end ends.
-            let r = end_there call.response end (sym drawn.ends ∙ ends) in
-            subst (λ (n : ℕ). dot.place < n) r.2 (within.1 r.0 r.1),
-      )
+      let within = are.within dot.number dot.place call has.3 (record { listed = listed; recorded = recorded }) in
+      let answered : (answer : ℕ) → bar.answered ≡ Some answer → dot.place < answer = λ answer is_answer.
+      let r = end_there call.response answer (sym drawn.answered ∙ is_answer) in
+      subst (λ (n : ℕ). dot.place < n) r.2 (within.1 r.0 r.1)
+      in
+      record {
+        begun = subst (λ (n : ℕ). n ≤ dot.place) (sym drawn.begins) within.0;
+        unanswered = answered;
+        lasting = λ end ends. not_after scene.dots.items dot.bar (length scene.lanes.items) dot.place bar (is.ends dot.bar bar at) (dot, there, refl, refl)
+            answered end ends bar.answered refl;
+      }
 
   -- the places of the dots don't fall, since the points don't
   pub places_up : ArePoints part order points → IsSceneOf part shown rows order points scene

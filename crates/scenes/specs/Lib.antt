@@ -1,6 +1,9 @@
 pub mod Gaps
 pub mod Columns
 pub mod FirstFit
+pub mod Listed
+pub mod Arrows
+pub mod Ends
 pub mod Scenes
 pub mod Windows
 pub mod Overlaps

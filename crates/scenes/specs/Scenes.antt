@@ -14,6 +14,7 @@ use Rattle.scenes.specs.declared.scene.Bar.{Bar}
 use Rattle.scenes.specs.declared.scene.Dot.{Dot}
 use Rattle.scenes.specs.declared.scene.Scene.{Scene}
 use Rattle.scenes.specs.Columns.{AreColumnsOf, AreLaneColumns}
+use Rattle.scenes.specs.Ends.{AreEnded, first_end}
 use Rattle.scenes.specs.Gaps.{AreGaps}
 
 -- the list has just the numbers with the property, each once, in rising order
@@ -21,25 +22,29 @@ pub record IsRisingListOf (P : ℕ → Type 0) (list : List ℕ) : Type 0 where
   pub rising : IsStrictlyIncreasing list
   pub exactly : (n : ℕ) → Contains list n ↔ P n
 
--- the places of a bar: its begin, its note and its end, those that it has
+-- the places of a bar: its begin, its note and its response, those that it has
 abbrev pub places_of : Bar → List ℕ
-places_of bar = ((bar.begins ∷ []) ++ option_to_list bar.note) ++ option_to_list bar.ends
+places_of bar =
+    ((bar.begins ∷ []) ++ option_to_list bar.note) ++ option_to_list bar.answered
 
 -- some bar has the place
 abbrev pub HasPlace : List Bar → ℕ → Type 0
 HasPlace bars place = (bar : Bar) × Contains bars bar × Contains (places_of bar) place
 
--- the place lies within the bar: not before its begin, and before its end, if any
-abbrev pub IsPlaceIn : Bar → ℕ → Type 0
-IsPlaceIn bar place = (bar.begins ≤ place) × ((end : ℕ) → bar.ends ≡ Some end → place < end)
+-- the place lies within the bar: not before its begin, before its response, if any, and not after
+-- its end, if any
+pub record IsPlaceIn (bar : Bar) (place : ℕ) : Type 0 where
+  pub begun : bar.begins ≤ place
+  pub unanswered : (answer : ℕ) → bar.answered ≡ Some answer → place < answer
+  pub lasting : (end : ℕ) → bar.ends ≡ Some end → place ≤ end
 
--- the bar of a call: in the lane of its client, from its invocation to its response or with an open
--- end, with the place of its note
+-- the bar of a call: in the lane of its client, with the places of its invocation, its response and
+-- its note
 pub record IsBarOf (rows : List Row) (lanes : List ℕ) (call : Call) (bar : Bar) : Type 0 where
   pub call_is : bar.call ≡ call.op
   pub lane : slice_get lanes bar.lane ≡ Some call.client
   pub begins : bar.begins ≡ call.invoked
-  pub ends : bar.ends ≡ option_map (λ response. response.place) call.response
+  pub answered : bar.answered ≡ option_map (λ response. response.place) call.response
   pub note : bar.note ≡ note_place rows call
 
 -- each of the calls is what the rows record of it
@@ -75,16 +80,24 @@ module _ (part : List Call) (shown : List ℕ) where
   AreBarsOf rows lanes bars = AllZip (λ i bar. (call : Call) × (slice_get part i ≡ Some call)
       × IsBarOf rows lanes call bar) shown bars
 
+  -- the same, where a bar ends without regard to dots
+  abbrev pub AreBegunBars : List Row → List ℕ → List Bar → Type 0
+  AreBegunBars rows lanes bars = AllZip (λ i bar. ((call : Call) × (slice_get part i ≡ Some call)
+      × IsBarOf rows lanes call bar)
+      × (bar.ends ≡ first_end (length lanes) bar.answered bar.begins bar.note)) shown bars
+
   -- the scene of the shown calls and of an order with its points: their clients as lanes, their
-  -- bars, the columns of the lanes, the places of the bars as ticks, the dots, and the calls that
-  -- aren't shown
+  -- bars, in the order of the calls' numbers, each with its end, the columns of the lanes, the
+  -- places of the bars as ticks, the dots, and the calls that aren't shown
   pub record IsSceneOf (rows : List Row) (order : List OpId) (points : List ℕ) (scene : Scene)
       : Type 0 where
     pub lanes : IsRisingListOf HasCallOf scene.lanes.items
     pub bars : AreBarsOf rows scene.lanes.items scene.bars.items
+    pub calls : IsStrictlyIncreasing (map (λ bar. bar.call.0) scene.bars.items)
     pub lane_columns : AreLaneColumns scene.bars.items (length scene.lanes.items)
         scene.lane_columns.items
     pub columns : AreColumnsOf scene.lanes.items scene.lane_columns.items scene.columns.items
     pub ticks : IsRisingListOf (HasPlace scene.bars.items) scene.ticks.items
     pub dots : AreDotsOf order points scene.bars.items scene.dots.items
+    pub ends : AreEnded scene.dots.items (length scene.lanes.items) scene.bars.items
     pub gaps : AreGaps part shown scene.gaps.items

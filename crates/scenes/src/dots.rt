@@ -32,7 +32,7 @@ pub(crate) fn dots_of(
 }
 
 /// The index of the bar of that call, if there is one.
-fn bar_of(bars: &[Bar], op: OpId) -> Option<usize>
+pub(crate) fn bar_of(bars: &[Bar], op: OpId) -> Option<usize>
     requires { IsStrictlyIncreasing (map (λ bar. bar.call.0) bars.now) }
     ensures found { IfSome result (λ k. (bar : Bar) × (slice_get bars.now k ≡ Some bar)
         × (bar.call ≡ op)) }

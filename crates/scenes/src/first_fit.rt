@@ -25,7 +25,11 @@ fn later(one: Option<usize>, other: Option<usize>) -> Option<usize>
 }
 
 /// A list with that end so many times.
-fn all_with(alloc: Global, count: usize, end: Option<usize>) -> Result<Vec<Option<usize>>, Memory>
+pub(crate) fn all_with(
+    alloc: Global,
+    count: usize,
+    end: Option<usize>,
+) -> Result<Vec<Option<usize>>, Memory>
     ensures all { IfOk result (λ list. length list.items ≡ count) }
     ensures each { IfOk result (λ list. (i : ℕ) (other : Option ℕ)
         → slice_get list.items i ≡ Some other → other ≡ end) }

@@ -8,20 +8,25 @@
 //! fast as the dots.
 #![tactic(auto)]
 
+mod arrows;
 mod bars;
 mod columns;
 mod dots;
+mod ends;
 mod first_fit;
 mod gaps;
 mod lanes;
 pub mod laws;
+mod listed;
 mod overlap;
 mod scene;
 mod ticks;
 mod windows;
 
+pub use arrows::{Arrow, arrow_between};
 pub use columns::Column;
 pub use gaps::Gap;
+pub use listed::first_places;
 pub use overlap::most_at_once;
 pub use scene::{Bar, Dot, Scene, scene_of};
 pub use windows::{Window, shown_calls, window_around};

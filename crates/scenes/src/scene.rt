@@ -2,9 +2,8 @@
 ghost use Rattle.std.specs.Prelude.{IfOk};
 ghost use Rattle.scenes.specs.Scenes.{IsSceneOf, IsSelection};
 
-use crate::bars::bars_of;
 use crate::columns::{Column, LaneColumns, columns_of, lane_columns};
-use crate::dots::dots_of;
+use crate::ends::{DottedBars, dotted_bars};
 use crate::gaps::{Gap, gaps_of};
 use crate::lanes::lanes_of;
 use crate::ticks::ticks_of;
@@ -20,8 +19,11 @@ pub struct Bar {
     pub lane: usize,
     /// The place of its invocation.
     pub begins: usize,
-    /// The place of its response; `None` for a pending call.
+    /// The place at which it ends: that of its response. A pending call's bar has no end; but of more
+    /// than 16 lanes it ends at the last of its marks: its begin, its note and its dots.
     pub ends: Option<usize>,
+    /// The place of its response; `None` for a pending call.
+    pub answered: Option<usize>,
     /// The place of its note, if it has one.
     pub note: Option<usize>,
 }
@@ -77,11 +79,11 @@ pub fn scene_of(
 {
     let _sequence = part.len();
     let lanes = lanes_of(alloc, part, shown)?;
-    let bars = bars_of(alloc, history, part, shown, &lanes)?;
+    let dotted = dotted_bars(alloc, history, part, shown, &lanes, order, points)?;
+    let DottedBars { bars, dots } = dotted;
     let LaneColumns { of_lanes, count } = lane_columns(alloc, lanes.len(), &bars)?;
     let columns = columns_of(alloc, &lanes, &of_lanes, count)?;
     let ticks = ticks_of(alloc, &bars)?;
-    let dots = dots_of(alloc, &bars, order, points)?;
     let gaps = gaps_of(alloc, part, shown)?;
     Ok(Scene {
         lanes,

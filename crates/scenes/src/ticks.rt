@@ -35,7 +35,7 @@ fn add_places(places: &mut Vec<usize>, bar: &Bar) -> Result<(), Memory>
 {
     places.push(bar.begins)?;
     add_some(places, bar.note)?;
-    add_some(places, bar.ends)?;
+    add_some(places, bar.answered)?;
     Ok(())
 }
 

@@ -97,6 +97,18 @@ impl<'a> Picture<'a> {
         self.line_in(last, last)
     }
 
+    /// Where the lines in the middle of columns end.
+    pub fn floor(self) -> u64 {
+        let mut floor = 0u64;
+        for piece in self.text.split('<') {
+            let tag = Tag::read(piece);
+            if tag.is("line", "lane") {
+                floor = floor.max(tag.number("y2"));
+            }
+        }
+        floor
+    }
+
     /// The line of the row in which a text of that base stands.
     pub fn line_of_text(self, base: u64) -> &'a str {
         self.last_line_in(base.saturating_sub(BELOW), base)

@@ -45,18 +45,52 @@ fn shape_of(tag: Tag<'_>) -> &str {
     }
 }
 
-/// Says where a bar, or a part of one, stands. One that leaves out the side below has no end.
+/// Says down to which line a bar stands. One that leaves out the side below has no end, and is said to
+/// stand down to a line if it doesn't reach the bottom of a picture of calls.
+fn say_end(out: &mut Answer, picture: Picture<'_>, tag: Tag<'_>, frame: Frame) {
+    let last = picture.last_line_in(frame.top, frame.foot);
+    if tag.name != "polyline" {
+        out.push(last);
+    } else if tag.class() != "open" || frame.foot == picture.floor() {
+        out.push("no end");
+    } else {
+        write!(out, "no end, down to {last}");
+    }
+}
+
+/// Says where a bar, or a part of one, stands.
 fn say_bar(out: &mut Answer, picture: Picture<'_>, tag: Tag<'_>) {
     let frame = Frame::of(tag);
     let shape = shape_of(tag);
     let name = picture.name_in(frame.left, frame.right);
     let first = picture.line_in(frame.top, frame.foot);
-    let last = if tag.name == "polyline" {
-        "no end"
-    } else {
-        picture.last_line_in(frame.top, frame.foot)
-    };
-    write!(out, "\n  {shape} {name}, {first} to {last}");
+    write!(out, "\n  {shape} {name}, {first} to ");
+    say_end(out, picture, tag, frame);
+}
+
+/// The number of the first call at whose bar the point lies, or just beside it.
+fn call_beside(picture: Picture<'_>, x: u64, y: u64) -> &str {
+    let mut found = "-";
+    for x in x.saturating_sub(1)..x.saturating_add(2) {
+        let (call, _) = picture.bar_at(x, y).split_once(',').unwrap_or(("-", ""));
+        if found == "-" {
+            found = call;
+        }
+    }
+    found
+}
+
+/// Says from which call's bar to which other's the arrow leads: its first corner stands at the one, and
+/// its third one on top of the other.
+fn say_before(out: &mut Answer, picture: Picture<'_>, corners: &str) {
+    let mut places = [0; 6];
+    for (place, text) in corners.trim().split(' ').take(6).enumerate() {
+        places[place] = whole(text);
+    }
+    let [x, y, _, _, tip, top] = places;
+    let from = call_beside(picture, x, y);
+    let to = call_beside(picture, tip, top.saturating_add(1));
+    write!(out, "\narrow: {from} to {to}");
 }
 
 /// Says in which bar the dot lies, and below which line.
@@ -108,6 +142,7 @@ fn say_placed(out: &mut Answer, picture: Picture<'_>, tag: Tag<'_>) {
         "reason" => write!(out, "\n{line}"),
         "label" => out.push(", "),
         "more" => out.push("\nmore: "),
+        "before" => out.push(": "),
         _ => return,
     }
     say_text(out, tag.text);
@@ -125,6 +160,7 @@ fn say_mark(out: &mut Answer, picture: Picture<'_>, tag: Tag<'_>) {
         }
         "g" => say_line(out, tag.class(), ""),
         "polyline" if tag.class() == "path" => say_path(out, picture, tag.value("points")),
+        "polyline" if tag.class() == "arrow" => say_before(out, picture, tag.value("points")),
         "rect" | "polyline" => say_bar(out, picture, tag),
         "circle" => say_dot(out, picture, tag),
         "line" => say_stroke(out, picture, tag),

@@ -1,5 +1,5 @@
 -- What was found of a hall's keys can be shown, and its section is added.
-use Rattle.std.proofs.Common.{ℕ, ◌≡◌, List, [], ◌∷◌, ◌++◌, Some, length, map, refl, subst, sym, arith}
+use Rattle.std.proofs.Common.{ℕ, ◌≡◌, List, [], ◌∷◌, ◌++◌, None, Some, length, map, refl, subst, sym, arith}
 use Rattle.std.specs.List.{AllZip, slice_get}
 use Rattle.tag.proofs.Options.{none_some}
 use Rattle.tag.specs.declared.numbers.OpId.{OpId}
@@ -69,9 +69,9 @@ in_order drawn rows calls order faulty scene is =
 pub picture_of_hall : (numbered : NumberedHistories) (drawn : Drawn) (n : ℕ) (t : Together) (words : List ℕ) (picture : Picture)
     → (hall : HallRows) (calls : List Call) (order faulty : List OpId) (scene : Scene)
     → picture.keys ≡ keys.Recorded → picture.hall ≡ hall → picture.part.now ≡ calls → picture.scene.now ≡ scene → picture.faulty.now ≡ faulty
-    → picture.ids.now ≡ bar_ids n → IsHall numbered n hall → AreCallsOf hall.history.now.rows calls → IsShownOf hall t order words faulty
+    → picture.ids.now ≡ bar_ids n → picture.places.now ≡ [] → picture.before ≡ None → IsHall numbered n hall → AreCallsOf hall.history.now.rows calls → IsShownOf hall t order words faulty
     → IsWholeScene drawn hall.history.now.rows calls order faulty scene → IsPictureOfHall numbered drawn n t words picture
-picture_of_hall numbered drawn n t words picture hall calls order faulty scene each of_hall of_calls of_scene of_faulty ids is_hall are shown whole =
+picture_of_hall numbered drawn n t words picture hall calls order faulty scene each of_hall of_calls of_scene of_faulty ids no_places no_arrow is_hall are shown whole =
     let rows = hall.history.now.rows in
     let hall_is = sym of_hall in
     let calls_are = sym of_calls in
@@ -87,6 +87,8 @@ picture_of_hall numbered drawn n t words picture hall calls order faulty scene e
           (subst (λ (fs : List OpId). IsWholeScene drawn rows calls order fs picture.scene.now) faulty_are
           (subst (IsWholeScene drawn rows calls order faulty) (sym of_scene) whole)));
       ids = ids;
+      no_places = no_places;
+      no_arrow = no_arrow;
     }
 
 -- the section of a picture: its sentences lead to its bars

@@ -1,6 +1,6 @@
 -- The page of whole histories: a section for each hall, with a picture of all its calls.
-use Rattle.std.specs.Prelude.{ℕ, ◌≡◌, Bool, true, false, List, [], ◌∷◌, ◌++◌, Some, cond, decimal, length, map}
-use Rattle.std.specs.Prelude.{nat_lt, slice_get}
+use Rattle.std.specs.Prelude.{ℕ, ◌≡◌, Bool, true, false, List, [], ◌∷◌, ◌++◌, None, Some}
+use Rattle.std.specs.Prelude.{cond, decimal, length, map, nat_lt, slice_get}
 use Rattle.std.specs.List.{AllZip, list_any}
 use Rattle.markup.specs.Markup.{Markup, nothing, text, element, both, page_text}
 use Rattle.markup.specs.Texts.{of_class, plain, worded}
@@ -157,6 +157,8 @@ module _ (numbered : NumberedHistories) (drawn : Drawn) where
       pub scene : IsWholeScene drawn picture.hall.history.now.rows picture.part.now order
           picture.faulty.now picture.scene.now
       pub ids : picture.ids.now ≡ bar_ids n
+      pub no_places : picture.places.now ≡ []
+      pub no_arrow : picture.before ≡ None
 
   -- the section of the hall of that number, of whose keys that was found
   abbrev pub IsSectionOfHall : ℕ → Together → Markup → Type 0

@@ -1,5 +1,5 @@
 //! The section of a hall, and that of keys without calls.
-ghost use Rattle.std.specs.Prelude.{◌≡◌, ◌<◌, ◌++◌, IfOk, List, OnOk, length, map};
+ghost use Rattle.std.specs.Prelude.{◌≡◌, ◌<◌, ◌++◌, [], IfOk, List, None, OnOk, length, map};
 ghost use Rattle.markup.specs.Markup.{rendered};
 ghost use Rattle.parallel_keys.specs.CheckedKeys.{CheckedKey};
 ghost use Rattle.parallel_keys.specs.KeysToCheck.{what_of};
@@ -87,6 +87,8 @@ fn picture_of<'a>(
     ensures scene { result.scene.now ≡ scene.now }
     ensures faulty { result.faulty.now ≡ faulty.now }
     ensures ids { result.ids.now ≡ ids.now }
+    ensures places { result.places.now ≡ [] }
+    ensures before { result.before ≡ None }
 {
     Picture {
         keys: CallKeys::Recorded,
@@ -95,6 +97,8 @@ fn picture_of<'a>(
         scene,
         faulty,
         ids,
+        places: &[],
+        before: None,
     }
 }
 

@@ -1,4 +1,3 @@
-use Rattle.std.proofs.Common.{subst, sym}
 use Rattle.std.proofs.lemmas.Result.{IfOk-weaker}
 use Rattle.draw_command.specs.Drawings.{order_in}
 use Rattle.draw_command.proofs.key_scene.scene_of_key.Goals as goal

@@ -16,7 +16,7 @@ loop-bar-preserved c =
     let gaps = c.args.gaps.now in
     let rest = c.args.rest.now in
     let i = c.loop-bar.bar-index in
-    let none : Bar = record { call = record { 0 = 0 }; lane = 0; begins = 0; ends = None; note = None } in
+    let none : Bar = record { call = record { 0 = 0 }; lane = 0; begins = 0; ends = None; answered = None; note = None } in
     let bar = get_or rest i none in
     let later = drop (i + 1) rest in
     let from = c.loop-bar.from in

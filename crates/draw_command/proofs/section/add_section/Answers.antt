@@ -14,6 +14,12 @@ append-requires c =
     let own = c.args.own.now in
     in_order c.args.task.now.drawn own.hall (judged_in own) c.as_slice-faulty.result.now c.in_ok-scene.scene c.in_ok-scene.ensures
 
+pub first_places-requires : goal.first_places-requires
+first_places-requires c = rw c.deref.ensures.value c.in_ok-scene.ensures.is.calls
+
+pub broken_arrow-requires : goal.broken_arrow-requires
+broken_arrow-requires c = rw c.deref-2.ensures.value c.in_ok-scene.ensures.is.calls
+
 pub returns : goal.returns
 returns c =
     let task = c.args.task.now in
@@ -27,6 +33,8 @@ returns c =
       scene = record { ref_ptr = (0, 0); now = c.in_ok-scene.scene };
       faulty = c.as_slice-faulty.result;
       ids = c.as_str.result;
+      places = c.as_slice-places.result;
+      before = c.broken_arrow.result;
     } in
     on_ok_weaker c.append.result
     (section_added task.numbered.now task.drawn c.args.refused c.args.n (judged_in own) c.as_slice.result.now picture
@@ -38,5 +46,7 @@ returns c =
           (subst (λ (calls : List OpId). IsWhy own.hall (judged_in own) own.why.text.items calls) (sym c.as_slice-faulty.ensures.value) c.requires.explained.why);
       scene = c.in_ok-scene.ensures;
       ids = c.as_str.ensures.value ∙ c.in_ok-ids.ensures;
+      places = rw c.as_slice-places.ensures.value (rw (c.refused_order.ensures, c.deref.ensures.value) at c.in_ok-listed.ensures);
+      before = rw c.deref-2.ensures.value at c.broken_arrow.ensures;
     }) c.hall_among.result c.hall_among.ensures c.as_str-2.result.now (c.as_str-2.ensures.value ∙ c.in_ok-targets.ensures) (faulty_in own) c.as_slice-faulty.ensures.value _ _)
     c.append.ensures

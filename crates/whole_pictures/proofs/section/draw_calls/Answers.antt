@@ -43,7 +43,7 @@ returns c =
     let whole = subst (λ (o : List OpId). IsWholeScene task.drawn rows calls o faulty scene) c.as_slice-order.ensures.value c.in_ok-scene.ensures in
     let ids = made.ids ∙ c.as_str.ensures.value ∙ c.in_ok-ids.ensures in
     let is = picture_of_hall task.numbered.now task.drawn c.args.number t words picture hall calls order faulty scene made.keys made.hall made.calls made.scene
-    made.faulty ids c.requires.hall c.requires.calls is_shown whole in
+    made.faulty ids made.places made.before c.requires.hall c.requires.calls is_shown whole in
     on_ok_weaker c.append.result
     (section_added task.numbered.now task.drawn c.args.number t words picture is c.as_str-2.result.now faulty
     (c.as_str-2.ensures.value ∙ c.in_ok-targets.ensures) made.faulty _ _) (rw c.halls-halls.ensures.halls at c.append.ensures)

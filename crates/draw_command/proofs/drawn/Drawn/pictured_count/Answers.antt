@@ -1,5 +1,5 @@
 -- The page has no room for one key more, or has room for all.
-use Rattle.std.proofs.Common.{ℕ, ◌≡◌, ◌+◌, ap₂, take, sym, ◌∙◌, arith}
+use Rattle.std.proofs.Common.{ℕ, ◌+◌, ap₂, take, sym, ◌∙◌, arith}
 use Rattle.draw_command.specs.Pictured.{window_size}
 use Rattle.draw_command.proofs.Fitting.{all_fit, no_room, one_more}
 use Rattle.draw_command.proofs.drawn.Drawn.pictured_count.Goals as goal
