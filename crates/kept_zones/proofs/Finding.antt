@@ -4,6 +4,7 @@ use Rattle.std.proofs.lemmas.Bool.{cases_lt, cases_eq}
 use Rattle.std.proofs.lemmas.Option.{same_Some, none-some}
 use Rattle.kept_zones.specs.Indexes.{AreIndexed, Misses}
 use Rattle.kept_zones.specs.Nearest.{IsLastBefore, IsFirstAfter, IsFirstOfAll}
+use Rattle.kept_zones.specs.Places.{HasNoOther}
 use Rattle.kept_zones.specs.Overwriting.{last_of, Known, Overwrites, IsOverwritten, IsSpent, NoneSpent}
 
 module _ (all forward inner : List (ℕ × ℕ)) (floor end place : ℕ) (is : AreIndexed (last_of all) (last_of forward) (last_of inner) floor) (high : floor ≤ end) where
@@ -110,3 +111,14 @@ module _ (known : Known) (place : ℕ) where
               ]
         ]
   ]
+
+-- a zone without another isn't overwritten
+pub not_overwritten : (all : List (ℕ × ℕ)) (end place : ℕ) → HasNoOther all end → IsOverwritten all place end → ⊥
+not_overwritten all end place none h = none-some h.1.last (sym (none h.0 h.1.apart) ∙ h.1.is)
+
+-- so no zone is spent where there is only that one, and it isn't
+pub one_unspent : (known : Known) (place first : ℕ) → HasNoOther known.zones first → (IsSpent known place first → ⊥) → NoneSpent known place
+one_unspent known place first none unspent u last at spent = elim (cases_eq u first) [
+  | inl same ↦ unspent (subst (λ (n : ℕ). IsSpent known place n) same spent)
+  | inr apart ↦ none-some last (sym (none u apart) ∙ at)
+]

@@ -10,7 +10,7 @@ use Rattle.kept_zones.specs.Nearest.{IsFirstAfter, IsLastUpTo}
 use Rattle.kept_zones.specs.Overwriting.{last_of}
 use Rattle.kept_zones.proofs.Changes.{Sets, Drops}
 
-apart_test : (k q : ℕ) → q ≢ k → is_at (nat_cmp k) q ≡ false
+pub apart_test : (k q : ℕ) → q ≢ k → is_at (nat_cmp k) q ≡ false
 apart_test k q apart = grind (arith, common_steps)
 
 pub set_from : (m n : BTreeMap ℕ ℕ) (k v : ℕ) → UpdatesBy nat_cmp (nat_cmp k) m n (Some v) → Sets (last_of m.entries) k v (last_of n.entries)

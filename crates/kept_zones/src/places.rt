@@ -1,8 +1,8 @@
 //! A map from places to places.
-ghost use Rattle.std.specs.Prelude.{◌≡◌, [], None, OnOk, OnErr};
+ghost use Rattle.std.specs.Prelude.{◌≡◌, [], None, IsTrue, OnOk, OnErr};
 ghost use Rattle.kept_zones.specs.Nearest.{IsFirstAfter, IsFirstOfAll, IsLastBefore, IsLastUpTo};
 ghost use Rattle.kept_zones.specs.Overwriting.{HasZone, last_of};
-ghost use Rattle.kept_zones.specs.Places.{LacksKey};
+ghost use Rattle.kept_zones.specs.Places.{HasNoOther, LacksKey};
 
 use crate::nearest::{Entry, Tree};
 use crate::slot::{is_at, value_at, without};
@@ -76,6 +76,16 @@ impl Places {
         self.first = without(self.first, key);
         self.second = without(self.second, key);
         self.more.remove(&key);
+    }
+
+    /// Whether nothing is at any key but that one.
+    pub(crate) fn has_no_other(&self, key: u64) -> bool
+        ensures { IsTrue result → HasNoOther self.now.entries key }
+    {
+        match nearest::first_of_all(&self.more) {
+            None => slot::has_no_other(self.first, key) && slot::has_no_other(self.second, key),
+            Some(_) => false,
+        }
     }
 
     /// The last entry before the place.

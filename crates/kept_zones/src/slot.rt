@@ -1,8 +1,8 @@
 //! Room for one entry, in front of others.
-ghost use Rattle.std.specs.Prelude.{◌≡◌, ◌≢◌, ◌∷◌, ℕ, List, Some, MatchBool, MatchOption, IfSome};
+ghost use Rattle.std.specs.Prelude.{◌≡◌, ◌≢◌, ◌∷◌, ℕ, List, Some, MatchBool, MatchOption, IfSome, IsTrue};
 ghost use Rattle.kept_zones.specs.Nearest.{IsEarlier, IsFirstAfter, IsFirstOfAll, IsLastBefore, IsLastUpTo, IsLater};
 ghost use Rattle.kept_zones.specs.Overwriting.{last_of};
-ghost use Rattle.kept_zones.specs.Places.{LacksKey, put_before};
+ghost use Rattle.kept_zones.specs.Places.{HasNoOther, LacksKey, put_before};
 
 use crate::nearest::Entry;
 
@@ -25,6 +25,17 @@ pub(crate) fn value_at(slot: Option<Entry>, key: u64, rest: Option<u64>) -> Opti
     match slot {
         Some(entry) if entry.0 == key => Some(entry.1),
         _ => rest,
+    }
+}
+
+/// Whether the entry has that key, if there is one.
+pub(crate) fn has_no_other(slot: Option<Entry>, key: u64) -> bool
+    ensures { IsTrue result → (es : List (ℕ × ℕ)) → HasNoOther es key
+        → HasNoOther (put_before slot es) key }
+{
+    match slot {
+        Some(entry) => entry.0 == key,
+        None => true,
     }
 }
 

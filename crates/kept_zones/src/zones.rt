@@ -198,6 +198,9 @@ impl Zones {
         ensures { MatchOption result (IsOverwritten self.now.zones place end → ⊥)
             (λ w. Overwrites self.now.zones place w end) }
     {
+        if self.all.has_no_other(end) {
+            return None;
+        }
         if let Some(first) = reaching(&self.forward, end, place) {
             return Some(first);
         }
@@ -222,6 +225,9 @@ impl Zones {
         let (first, _) = self.all.first_of_all()?;
         if self.is_spent(first, place) {
             return Some(first);
+        }
+        if self.all.has_no_other(first) {
+            return None;
         }
         let (second, _) = self.all.first_after(first)?;
         if self.is_spent(second, place) {

@@ -1,14 +1,15 @@
 -- What a monitor that has seen bytes says of them.
-use Rattle.std.proofs.Common.{ℕ, ◌≡◌, ◌+◌, ◌++◌, List, [], Bool, true, false, Option, Result, Ok, Err, inl, inr, refl, subst, sym, take, Some}
+use Rattle.std.proofs.Common.{ℕ, ◌≡◌, ◌+◌, ◌∙◌, List, [], Bool, true, false, Option, Result, Ok, Err, ap, arith, inl, inr, refl, subst, sym, take, Some, None, true≢false}
 use Rattle.std.specs.Prelude.{Contains, slice_get}
 use Rattle.counted_devices.specs.ReadFaults.{IsFaultBy}
 use Rattle.counted_devices.specs.declared.read_fault.FaultKind.{FaultKind}
 use Rattle.counted_devices.specs.declared.read_fault.FaultKind.TheVariants as kind
 use Rattle.recorder.specs.declared.part.Call.{Call}
 use Rattle.recorder.specs.declared.row.Row.{Row}
-use Rattle.recorder.specs.Histories.{IsWellFormed}
+use Rattle.recorder.specs.Histories.{IsWellFormed, call_count}
 use Rattle.recorder.specs.Orders.{IsLinearizable}
-use Rattle.recorder.specs.Records.{IsPart}
+use Rattle.recorder.specs.Records.{AreFirstSeen, IsPart}
+use Rattle.tag.proofs.Lists.{place_of}
 use Rattle.cli.specs.declared.outcome.Found.{Found}
 use Rattle.cli.specs.declared.outcome.Found.TheVariants.{Good, Undecided}
 use Rattle.cli.specs.declared.outcome.Found.TheVariants as found
@@ -25,14 +26,17 @@ use Rattle.monitored_key.specs.declared.judged.Refusal.{Refusal}
 use Rattle.record_monitor.specs.declared.report.Finding.{Finding}
 use Rattle.record_monitor.specs.declared.report.Finding.TheVariants.{Refused}
 use Rattle.record_monitor.specs.declared.taken.Taken.{Taken}
-use Rattle.record_monitor.specs.Monitored.{HasTaken, keys_of, reports_of}
+use Rattle.record_monitor.specs.declared.report.Report.{Report}
+use Rattle.record_monitor.specs.Monitored.{HasTaken, begun_of, keys_of, reports_of}
 use Rattle.record_monitor.specs.Watched.{HasReport}
 use Rattle.monitor_command.specs.declared.session.Stopped.{Stopped}
 use Rattle.monitor_command.specs.declared.session.Stopped.TheVariants as stopped
-use Rattle.monitor_command.specs.Endings.{EndsAs, GoesOn, IsFoundOf, IsNoFault, IsRefusedAndTold, Stands, TellsRefusal, is_memory}
+use Rattle.monitor_command.specs.Endings.{EndsAs, GoesOn, HasSent, IsFoundOf, IsNoFault, IsRefusedAndTold, Stands, TellsCounts, TellsCountsOf, TellsLast, TellsRefusal, is_memory}
 use Rattle.monitor_command.specs.declared.monitoring.Monitoring.{Monitoring}
 use Rattle.monitor_command.proofs.Reports.{seen_before, seen_file, seen_lines}
-use Rattle.monitor_command.specs.Files.{AreFirstRows, HasRefusal, HasSeen, IsAtomicFile, IsRefuted}
+use Rattle.monitor_command.proofs.Sent.{counts_last}
+use Rattle.monitor_command.specs.Files.{AreFirstRows, HasDoubtsAlone, HasNoRefusalFrom, HasRefusal, HasSeen, IsAtomicFile, IsRefuted}
+use Rattle.monitor_command.specs.Tellings.{is_refusal}
 
 abbrev pub RowsFed : Type 0
 RowsFed = Feed (LongHistory (Option Taken)) LineFault
@@ -85,15 +89,64 @@ module _ (bytes : List ℕ) (monitor : Option Taken) where
     each = λ key part is. law file.rows monitor key part (formed file.rows (inr (inr file.they))) file.taken none is;
   }
 
+-- ---- what is counted
+
+begun_is : (rows : List Row) (monitor : Option Taken) → HasTaken rows monitor → begun_of monitor ≡ call_count rows
+begun_is rows None h = absurd h
+begun_is rows (Some taken) h = h.opens.begun
+
+seen_is : (rows : List Row) (monitor : Option Taken) → HasTaken rows monitor → AreFirstSeen rows (keys_of monitor)
+seen_is rows None h = absurd h
+seen_is rows (Some taken) h = h.keys.knows.keys.seen
+
+counted : (a b c : Option (List ℕ)) (form : Lines) (bytes : List ℕ) (monitor : Option Taken) → HasTakenFile HasTaken bytes monitor
+    → HasSent a b → TellsCountsOf b c form monitor → TellsCounts a c form bytes
+counted a b c form bytes monitor file sent t =
+    let last : TellsCounts b c form bytes = record {
+      rows = file.rows;
+      all = file.they;
+      monitor = monitor;
+      taken = file.taken;
+      told = t;
+      calls = t.are.calls ∙ begun_is file.rows monitor file.taken;
+      keys = seen_is file.rows monitor file.taken;
+    } in
+    counts_last a b c form bytes sent last
+
+-- ---- what is found
+
+-- where no report is a refusal, none is among them
+no_refusal : (reports : List Report) → HasNoRefusalFrom 0 reports → HasRefusal reports → ⊥
+no_refusal reports none r =
+    let at = place_of reports r.report r.there in
+    true≢false (sym (ap is_refusal r.is) ∙ none at.0 r.report (omega arith) at.1)
+
+last_of_all : (a c : Option (List ℕ)) (all : Bool) (form : Lines) (bytes : List ℕ) (reports : List Report) → (all ≡ false → HasNoRefusalFrom 0 reports)
+    → HasRefusal reports → TellsCounts a c form bytes → TellsLast a c all form bytes
+last_of_all a c true form bytes reports none r t = t
+last_of_all a c false form bytes reports none r t = absurd (no_refusal reports (none refl) r)
+
 -- what is found at the end of the file
-pub found_at_end : (a c : Option (List ℕ)) (asked : Monitoring) (bytes : List ℕ) (monitor : Option Taken) (f : Found)
-    → (f ≡ Good → reports_of monitor ≡ []) → (f ≡ found.Refused → HasRefusal (reports_of monitor)) → (f ≡ found.Refused → asked.all ≡ true)
-    → RefusalIsFinal → NoReportIsAnOrder → HasTakenFile HasTaken bytes monitor → IsFoundOf a c asked bytes f
-found_at_end a c asked bytes monitor Good good refused all final law file = atomic bytes monitor law file (good refl)
-found_at_end a c asked bytes monitor found.Refused good refused all final law file =
-    let is_all = all refl in
-    (refuted bytes monitor final (seen_file bytes monitor file) (refused refl), λ one. absurd (cc))
-found_at_end a c asked bytes monitor Undecided good refused all final law file = tt
+module _ (a b c : Option (List ℕ)) (asked : Monitoring) (bytes : List ℕ) (monitor : Option Taken) where
+  pub found_at_end : (f : Found) → (f ≡ Good → reports_of monitor ≡ []) → (f ≡ found.Refused → HasRefusal (reports_of monitor))
+      → (f ≡ Undecided → HasDoubtsAlone (reports_of monitor)) → (asked.all ≡ false → HasNoRefusalFrom 0 (reports_of monitor))
+      → RefusalIsFinal → NoReportIsAnOrder → HasTakenFile HasTaken bytes monitor
+      → HasSent a b → TellsCountsOf b c asked.form monitor → IsFoundOf a c asked bytes f
+  found_at_end Good good refused undecided none final law file sent t =
+      (atomic bytes monitor law file (good refl), counted a b c asked.form bytes monitor file sent t)
+  found_at_end found.Refused good refused undecided none final law file sent t = (
+    refuted bytes monitor final (seen_file bytes monitor file) (refused refl),
+    last_of_all a c asked.all asked.form bytes (reports_of monitor) none (refused refl) (counted a b c asked.form bytes monitor file sent t),
+  )
+  found_at_end Undecided good refused undecided none final law file sent t =
+      let doubts = undecided refl in (
+        record { rows = file.rows; all = file.they; monitor = monitor; taken = file.taken; doubts = doubts },
+        counted a b c asked.form bytes monitor file sent t,
+      )
+
+-- a refusal that was told last, where not all keys are judged on
+pub refused_is_last : (a c : Option (List ℕ)) (asked : Monitoring) (bytes : List ℕ) → asked.all ≡ false → IsRefusedAndTold a c asked.form bytes → IsFoundOf a c asked bytes found.Refused
+refused_is_last a c asked bytes one told = (told.refuted, subst (λ (all : Bool). TellsLast a c all asked.form bytes) (sym one) told)
 
 -- what stopped the command isn't a fault of the file
 pub stopped_on : (a c : Option (List ℕ)) (form : Lines) (bytes : List ℕ) (feed : Feed (LongHistory (Option Taken)) LineFault) (why : Stopped) → IsNoFault why → GoesOn a c form bytes (Err why) feed

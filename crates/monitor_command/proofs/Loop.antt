@@ -5,7 +5,7 @@ use Rattle.cli.specs.declared.outcome.Found.{Found}
 use Rattle.cli.specs.declared.outcome.Found.TheVariants.{Good, Refused, Undecided}
 use Rattle.command_line.specs.declared.lines.Lines.{Lines}
 use Rattle.counted_devices.specs.DeviceStates.{DeviceStates}
-use Rattle.counted_devices.specs.Deliveries.{Delivers, Holds}
+use Rattle.counted_devices.specs.Deliveries.{Holds}
 use Rattle.counted_devices.proofs.Consuming.{Consumes-keeps}
 use Rattle.counted_devices.proofs.Delivering.{Delivers-more, finish_fault, stops_now}
 use Rattle.file_format.specs.Files.{file_faults}
@@ -15,8 +15,8 @@ use Rattle.monitor_command.specs.declared.monitoring.Monitoring.{Monitoring}
 use Rattle.monitor_command.specs.declared.session.Stopped.{Stopped}
 use Rattle.monitor_command.specs.declared.session.Stopped.TheVariants as stopped
 use Rattle.monitor_command.specs.Endings.{EndsAs, EndsIn, GoesOn, HasSent, IsFoundOf, IsRefutedIn, Stands}
-use Rattle.monitor_command.proofs.Judging.{RowsFed}
-use Rattle.monitor_command.proofs.Sent.{refused_last}
+use Rattle.monitor_command.proofs.Judging.{RowsFed, refused_is_last}
+use Rattle.monitor_command.proofs.Sent.{counts_last, refused_last, told_last_of_all}
 
 -- a block more
 pub stands_more : (a b c p q : Option (List ℕ)) (form : Lines) (block : List ℕ) (old new : RowsFed) → Holds Stands a b old → Consumes b c block
@@ -42,24 +42,26 @@ module _ (reader writer : DeviceStates) (asked : Monitoring) (mid : Option (List
     stops_at stopped.Output h k goes = tt
 
     -- by the block a key is refused
-    pub refused_by : Holds Stands reader.old before feed → Consumes before reader.new block → HasSent writer.old mid
+    pub refused_by : Holds Stands reader.old before feed → Consumes before reader.new block → HasSent writer.old mid → asked.all ≡ false
         → ((bytes : List ℕ) → Stands bytes feed → GoesOn mid writer.new asked.form (bytes ++ block) (Ok true) new) → IsRefutedIn reader writer asked
-    refused_by h k sent goes =
+    refused_by h k sent one goes =
         let P : List ℕ → Type 0 = λ bytes. Stands bytes feed in
         let Q : List ℕ → Type 0 = λ bytes. IsFoundOf writer.old writer.new asked bytes Refused in
         Delivers-more P Q reader.old before reader.new block h k
-        (λ bytes s. ((goes bytes s).refuted, λ one. refused_last writer.old mid writer.new asked.form (bytes ++ block) sent (goes bytes s)))
+        (λ bytes s. refused_is_last writer.old writer.new asked (bytes ++ block) one (refused_last writer.old mid writer.new asked.form (bytes ++ block) sent (goes bytes s)))
 
   -- the reader is at its end
   pub ends_in : (result : Result Found Stopped) → Holds Stands reader.old reader.new feed → IsAtEnd reader.new → HasSent writer.old mid
       → ((bytes : List ℕ) → Stands bytes feed → EndsAs mid writer.new asked bytes result) → EndsIn reader writer asked result
-  ends_in (Ok Good) h end sent ends = record { bytes = h.bytes; given = h.given; fact = (end, ends h.bytes h.fact) }
-  ends_in (Ok Refused) h end sent ends = record {
-    bytes = h.bytes;
-    given = h.given;
-    fact = ((ends h.bytes h.fact).0, λ one. refused_last writer.old mid writer.new asked.form h.bytes sent ((ends h.bytes h.fact).1 one));
-  }
-  ends_in (Ok Undecided) h end sent ends = tt
+  ends_in (Ok Good) h end sent ends =
+      let found = ends h.bytes h.fact in
+      record { bytes = h.bytes; given = h.given; fact = (end, (found.0, counts_last writer.old mid writer.new asked.form h.bytes sent found.1)) }
+  ends_in (Ok Refused) h end sent ends =
+      let found = ends h.bytes h.fact in
+      record { bytes = h.bytes; given = h.given; fact = (found.0, told_last_of_all writer.old mid writer.new asked.all asked.form h.bytes sent found.1) }
+  ends_in (Ok Undecided) h end sent ends =
+      let found = ends h.bytes h.fact in
+      record { bytes = h.bytes; given = h.given; fact = (end, (found.0, counts_last writer.old mid writer.new asked.form h.bytes sent found.1)) }
   ends_in (Err (stopped.Fault fault)) h end sent ends =
       finish_fault (file_faults long_history_format) Stands (λ (_ : List ℕ) (_ : Unit {0}). Unit {0}) reader feed (Err fault) (h, end) ends
   ends_in (Err stopped.Memory) h end sent ends = tt

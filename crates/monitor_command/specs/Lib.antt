@@ -1,4 +1,4 @@
-pub mod Stops
 pub mod Files
 pub mod Tellings
+pub mod Countings
 pub mod Endings

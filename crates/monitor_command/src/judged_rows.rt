@@ -1,10 +1,9 @@
 //! A monitor as what takes the rows of a file.
 ghost use Rattle.std.specs.Prelude.{◌≡◌, []};
 ghost use Rattle.record_monitor.specs.Monitored.{HasTaken};
-ghost use Rattle.monitor_command.specs.Stops.{line_answer, stop_of};
 
-use file_format::{LineFault, Stop, TakesRows};
-use open_calls::CallRefusal;
+use file_format::{Stop, TakesRows};
+use line_answers::line_answer;
 use record_monitor::RecordMonitor;
 use recorder::{ActionRef, ReturnedRef};
 use std::alloc::Global;
@@ -45,30 +44,6 @@ impl JudgedRows {
         ensures { result.now ≡ self.now }
     {
         &self.monitor
-    }
-}
-
-/// The fault of a line whose row is refused.
-fn stop_of(refusal: CallRefusal) -> Stop
-    ensures { result ≡ stop_of refusal }
-{
-    match refusal {
-        CallRefusal::OutOfTurn => Stop::Fault(LineFault::CallOutOfTurn),
-        CallRefusal::ClientBusy => Stop::Fault(LineFault::ClientBusy),
-        CallRefusal::NotPending => Stop::Fault(LineFault::CallNotPending),
-        CallRefusal::WrongKind => Stop::Fault(LineFault::WrongKind),
-        CallRefusal::NoteTwice => Stop::Fault(LineFault::NoteTwice),
-        CallRefusal::Memory => Stop::Memory,
-    }
-}
-
-/// What is answered to a row, as it is answered to its line.
-fn line_answer(answer: Result<(), CallRefusal>) -> Result<(), Stop>
-    ensures { result ≡ line_answer answer }
-{
-    match answer {
-        Ok(()) => Ok(()),
-        Err(refusal) => Err(stop_of(refusal)),
     }
 }
 

@@ -3,7 +3,8 @@ ghost use Rattle.std.specs.Prelude.{◌≡◌, ◌<◌, IfOk, length};
 ghost use Rattle.counted_devices.specs.DeviceStates.{states};
 ghost use Rattle.cli.specs.Devices.{file_states};
 ghost use Rattle.cli.specs.declared.status.Status.TheVariants.{Format, Good, Refused as Is_refused};
-ghost use Rattle.monitor_command.specs.Endings.{EndsIn, IsAtomicIn, IsFaultSaid, IsRefutedIn};
+ghost use Rattle.cli.specs.declared.status.Status.TheVariants.{Undecided as Is_undecided};
+ghost use Rattle.monitor_command.specs.Endings.{EndsIn, IsAtomicIn, IsFaultSaid, IsRefutedIn, IsUndecidedIn};
 
 use crate::monitoring::{Monitoring, Watch};
 use crate::session::{Session, Stopped};
@@ -84,9 +85,13 @@ where
     E: CountedWrite,
     L: Watch,
     ensures atomic { result ≡ Good
-        → IsAtomicIn (states R.remaining R.failures history.old.reader history.new.reader) }
+        → IsAtomicIn (states R.remaining R.failures history.old.reader history.new.reader)
+        (states W.contents W.failures out.old out.new) asked }
     ensures refused { result ≡ Is_refused
         → IsRefutedIn (states R.remaining R.failures history.old.reader history.new.reader)
+        (states W.contents W.failures out.old out.new) asked }
+    ensures undecided { result ≡ Is_undecided
+        → IsUndecidedIn (states R.remaining R.failures history.old.reader history.new.reader)
         (states W.contents W.failures out.old out.new) asked }
     ensures fault { result ≡ Format
         → IsFaultSaid (file_states R.remaining R.failures history.old history.new)

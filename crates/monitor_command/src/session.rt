@@ -1,12 +1,15 @@
 //! A file that is monitored: what was judged of it, and how much of that was told.
-ghost use Rattle.std.specs.Prelude.{◌≡◌, ◌≤◌, ◌+◌, ◌++◌, ◌^◌, ℕ, [], List, None, true, IfErr, IfOk, OnOk, length};
+ghost use Rattle.std.specs.Prelude.{◌≡◌, ◌≤◌, ◌+◌, ◌++◌, ◌^◌, ℕ, [], List, None, false, true, IfErr, IfOk, OnOk, length};
 ghost use Rattle.counted_devices.specs.Sendings.{Sends};
-ghost use Rattle.monitor_command.specs.Endings.{EndsAs, GoesOn, HasSent, IsNoFault, Stands, TellsRefusal, is_memory};
+ghost use Rattle.record_monitor.specs.Monitored.{reports_of};
+ghost use Rattle.monitor_command.specs.Files.{HasNoRefusalFrom};
+ghost use Rattle.monitor_command.specs.Endings.{EndsAs, GoesOn, HasSent, IsNoFault, Stands, TellsCountsOf, TellsRefusal, is_memory};
 
 use crate::judged_rows::JudgedRows;
 use crate::monitoring::{Monitoring, Watch};
-use crate::telling::{append_counts, append_new, found_by};
+use crate::telling::{append_counts, append_new, first_untold, found_by};
 use cli::Found;
+use command_line::Lines;
 use counted_devices::{CountedWrite, write_text};
 use file_format::{FaultKind, FileFault};
 use history_file::laws::a_feed_has_taken_the_rows_of_its_lines;
@@ -101,6 +104,9 @@ fn tell<W: CountedWrite>(
 ) -> Result<bool, Stopped>
     ensures stops { IfOk result (λ stops. stops ≡ true
         → TellsRefusal (W.contents out.old) (W.contents out.new) asked.form monitor.now) }
+    ensures asked { IfOk result (λ stops. stops ≡ true → asked.all ≡ false) }
+    ensures passes { IfOk result (λ stops. stops ≡ false → asked.all ≡ false
+        → HasNoRefusalFrom told (reports_of monitor.now)) }
     ensures sent { OnOk result (HasSent (W.contents out.old) (W.contents out.new)) }
     ensures failed { IfErr result IsNoFault }
 {
@@ -108,6 +114,48 @@ fn tell<W: CountedWrite>(
     let stops = append_new(&mut text, monitor, told, asked)?;
     write_found(text.as_slice(), watch, out)?;
     Ok(stops)
+}
+
+/// Writes what isn't told yet of what the monitor reported of a whole file, as `tell` does.
+fn tell_rest<W: CountedWrite>(
+    alloc: Global,
+    monitor: &RecordMonitor,
+    told: usize,
+    asked: Monitoring,
+    watch: &impl Watch,
+    out: &mut W,
+) -> Result<bool, Stopped>
+    ensures stops { IfOk result (λ stops. stops ≡ true
+        → TellsRefusal (W.contents out.old) (W.contents out.new) asked.form monitor.now) }
+    ensures asked { IfOk result (λ stops. stops ≡ true → asked.all ≡ false) }
+    ensures passes { IfOk result (λ stops. stops ≡ false → asked.all ≡ false
+        → HasNoRefusalFrom 0 (reports_of monitor.now)) }
+    ensures sent { OnOk result (HasSent (W.contents out.old) (W.contents out.new)) }
+    ensures failed { IfErr result IsNoFault }
+{
+    let first = if asked.all {
+        told
+    } else {
+        first_untold(monitor.reports(), told)
+    };
+    tell(alloc, monitor, first, asked, watch, out)
+}
+
+/// Writes how many calls on how many keys there were.
+fn tell_counts<W: CountedWrite>(
+    alloc: Global,
+    monitor: &RecordMonitor,
+    form: Lines,
+    watch: &impl Watch,
+    out: &mut W,
+) -> Result<(), Stopped>
+    ensures told { OnOk result
+        (TellsCountsOf (W.contents out.old) (W.contents out.new) form monitor.now) }
+    ensures failed { IfErr result IsNoFault }
+{
+    let mut text = Vec::new(alloc);
+    append_counts(alloc, &mut text, monitor, form)?;
+    write_found(text.as_slice(), watch, out)
 }
 
 impl Session {
@@ -127,6 +175,7 @@ impl Session {
             → GoesOn (W.contents out.old) (W.contents out.new) asked.form (bytes ++ block.now) result
             self.new.feed }
         ensures sent { OnOk result (HasSent (W.contents out.old) (W.contents out.new)) }
+        ensures asked { IfOk result (λ stops. stops ≡ true → asked.all ≡ false) }
         ensures count { IfOk result (λ stops. self.new.feed.fed ≤ self.old.feed.fed + length block.now) }
     {
         a_feed_has_taken_the_rows_of_its_lines::<JudgedRows>();
@@ -173,12 +222,10 @@ impl Session {
             Err(fault) => return Err(Stopped::Fault(fault)),
         };
         let monitor = rows.monitor();
-        if tell(alloc, monitor, told, asked, watch, out)? {
+        if tell_rest(alloc, monitor, told, asked, watch, out)? {
             return Ok(Found::Refused);
         }
-        let mut text = Vec::new(alloc);
-        append_counts(alloc, &mut text, monitor, asked.form)?;
-        write_found(text.as_slice(), watch, out)?;
-        Ok(found_by(monitor, asked.all))
+        tell_counts(alloc, monitor, asked.form, watch, out)?;
+        Ok(found_by(monitor))
     }
 }

@@ -1,9 +1,11 @@
 //! What a monitor reported, as it is told.
-ghost use Rattle.std.specs.Prelude.{◌≡◌, ◌++◌, ℕ, [], List, true, IfOk, OnOk, slice_get};
+ghost use Rattle.std.specs.Prelude.{◌≡◌, ◌++◌, ℕ, [], List, false, true, IfOk, OnOk, slice_get};
 ghost use Rattle.std.specs.Option.{option_copied};
-ghost use Rattle.cli.specs.declared.outcome.Found.TheVariants.{Good, Refused};
+ghost use Rattle.cli.specs.declared.outcome.Found.TheVariants.{Good, Refused, Undecided};
 ghost use Rattle.record_monitor.specs.Monitored.{keys_of, reports_of};
-ghost use Rattle.monitor_command.specs.Files.{HasRefusal};
+ghost use Rattle.monitor_sentences.specs.declared.counts.Counts.{Counts};
+ghost use Rattle.monitor_command.specs.Countings.{AreCountsOf, counts_text};
+ghost use Rattle.monitor_command.specs.Files.{HasDoubtsAlone, HasNoRefusalBefore, HasNoRefusalFrom, HasRefusal};
 ghost use Rattle.monitor_command.specs.Tellings.{EndsWithRefusal, Tells, TellsReport, doubt_text, ended_text};
 ghost use Rattle.monitor_command.specs.Tellings.{is_refusal, key_text, refusal_text};
 
@@ -137,8 +139,11 @@ pub(crate) fn append_new(
     told: usize,
     asked: Monitoring,
 ) -> Result<bool, Memory>
-    ensures { IfOk result (λ stops. stops ≡ true
+    ensures stops { IfOk result (λ stops. stops ≡ true
         → EndsWithRefusal asked.form monitor.now text.new.items) }
+    ensures asked { IfOk result (λ stops. stops ≡ true → asked.all ≡ false) }
+    ensures passes { IfOk result (λ stops. stops ≡ false → asked.all ≡ false
+        → HasNoRefusalFrom told (reports_of monitor.now)) }
 {
     let reports = monitor.reports();
     for number in told..reports.len() {
@@ -151,9 +156,22 @@ pub(crate) fn append_new(
     Ok(false)
 }
 
+/// Where telling goes on at the end of a file: after so many reports, or at a refusal before that.
+pub(crate) fn first_untold(reports: &[Report], told: usize) -> usize
+    ensures { HasNoRefusalBefore result reports.now }
+{
+    for number in 0..reports.len() {
+        if number == told || is_refusal(&reports[number]) {
+            return number;
+        }
+    }
+    told
+}
+
 /// Whether a refusal is among the reports.
 fn has_refusal(reports: &[Report]) -> bool
-    ensures { result ≡ true → HasRefusal reports.now }
+    ensures some { result ≡ true → HasRefusal reports.now }
+    ensures none { result ≡ false → HasNoRefusalFrom 0 reports.now }
 {
     for report in reports {
         if is_refusal(report) {
@@ -182,36 +200,46 @@ fn count_doubts(alloc: Global, monitor: &RecordMonitor) -> Result<u64, Memory> {
     Ok(marks.iter().filter(|mark| **mark).count() as u64)
 }
 
-/// Tells how many calls on how many keys there were, and how many of these are refused or have a doubt.
+/// How many calls on how many keys there were, and how many of these are refused or have a doubt.
+fn counts_of(alloc: Global, monitor: &RecordMonitor) -> Result<Counts, Memory>
+    ensures { IfOk result (AreCountsOf monitor.now) }
+{
+    let doubtful = count_doubts(alloc, monitor)?;
+    Ok(Counts {
+        refused: monitor.refused_count() as u64,
+        doubtful,
+        keys: monitor.keys().len() as u64,
+        calls: monitor.begun(),
+    })
+}
+
+/// Tells the counts.
 pub(crate) fn append_counts(
     alloc: Global,
     text: &mut Vec<u8>,
     monitor: &RecordMonitor,
     form: Lines,
-) -> Result<(), Memory> {
-    let counts = Counts {
-        refused: monitor.refused_count() as u64,
-        doubtful: count_doubts(alloc, monitor)?,
-        keys: monitor.keys().len() as u64,
-        calls: monitor.begun(),
-    };
+) -> Result<(), Memory>
+    ensures { OnOk result ((counts : Counts) × AreCountsOf monitor.now counts
+        × (text.new.items ≡ text.old.items ++ counts_text form counts)) }
+{
+    let counts = counts_of(alloc, monitor)?;
     match form {
         Lines::Plain => append_end(text, counts),
         Lines::Json => append_end_object(text, counts),
     }
 }
 
-/// What is found of all keys of a file that came to its end: nothing is wrong only if nothing was reported. Unless all
-/// keys are judged on, the command ended before if a key was refused.
-pub(crate) fn found_by(monitor: &RecordMonitor, all: bool) -> Found
+/// What is found of all keys of a file that came to its end: nothing is wrong only if nothing was reported.
+pub(crate) fn found_by(monitor: &RecordMonitor) -> Found
     ensures good { result ≡ Good → reports_of monitor.now ≡ [] }
     ensures refused { result ≡ Refused → HasRefusal (reports_of monitor.now) }
-    ensures all { result ≡ Refused → all ≡ true }
+    ensures undecided { result ≡ Undecided → HasDoubtsAlone (reports_of monitor.now) }
 {
     let reports = monitor.reports();
     if reports.is_empty() {
         Found::Good
-    } else if all && has_refusal(reports) {
+    } else if has_refusal(reports) {
         Found::Refused
     } else {
         Found::Undecided

@@ -4,7 +4,7 @@ use Rattle.std.proofs.lemmas.Bool.{cases_eq}
 use Rattle.std.proofs.lemmas.Option.{same_Some, none-some}
 use Rattle.open_calls.specs.declared.open_call.OpenCall.{OpenCall}
 use Rattle.open_calls.specs.Indexes.{AreIndexed}
-use Rattle.open_calls.proofs.Maps.{Sets}
+use Rattle.open_calls.specs.Numbered.{Sets}
 
 module _ {T : Type 0} (begun : ℕ) (calls : ℕ → Option (OpenCall T)) (clients : ℕ → Option ℕ) (are : AreIndexed begun calls clients) where
   -- equal maps

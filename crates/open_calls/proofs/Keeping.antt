@@ -1,5 +1,5 @@
 -- What is kept stays that of the rows, with one row more.
-use Rattle.std.proofs.Common.{ℕ, ◌≡◌, ◌≢◌, ◌+◌, inl, inr, List, [], ◌∷◌, ◌++◌, true, Option, Some, None, IsSome, ap, sym, subst, ◌∙◌, refl, arith}
+use Rattle.std.proofs.Common.{ℕ, ◌≡◌, ◌≢◌, inl, inr, List, [], ◌∷◌, ◌++◌, true, Option, Some, None, IsSome, ap, sym, subst, ◌∙◌, refl, arith}
 use Rattle.std.specs.FinMap as finite
 use Rattle.std.specs.Ordering.{nat_cmp}
 use Rattle.std.proofs.lemmas.Bool.{cases_eq}
@@ -18,7 +18,8 @@ use Rattle.open_calls.specs.declared.open_call.OpenCall.{OpenCall}
 use Rattle.open_calls.specs.Open.{Open, call_at, begun_call, with_answer, with_begun, with_note}
 use Rattle.open_calls.specs.Rows.{IsKept, KeepsOpen}
 use Rattle.open_calls.proofs.Fresh.{not_answered, not_noted}
-use Rattle.open_calls.proofs.Maps.{Sets, sets-insert, sets-remove}
+use Rattle.open_calls.specs.Numbered.{Sets}
+use Rattle.open_calls.proofs.Maps.{sets-insert, sets-remove}
 use Rattle.open_calls.proofs.OneRow.{count_push, kept_more, noted_back, pending_more, pending_back, answered_back}
 
 pub is_there : {X : Type 0} (o : Option X) (x : X) → o ≡ Some x → IsSome o

@@ -7,3 +7,6 @@ mod Answers
 mod Views
 mod Once
 mod Reasons
+mod InSlots
+mod Mapped
+mod KeptCalls

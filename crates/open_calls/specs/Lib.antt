@@ -3,3 +3,5 @@ pub mod Rows
 pub mod Reasons
 pub mod Steps
 pub mod Indexes
+pub mod Numbered
+pub mod Kept

@@ -12,11 +12,11 @@ ghost use Rattle.open_calls.specs.Rows.{KeepsOpen, TakesRow};
 ghost use Rattle.open_calls.specs.Steps.{IsAnswerRefused, IsBeginRefused, IsNoteRefused};
 ghost use Rattle.open_calls.specs.Steps.{MayBeAnswered, MayBeNoted, MayBegin};
 
+use crate::numbered::Numbered;
 use crate::open_call::OpenCall;
 use crate::refusal::CallRefusal;
 use recorder::{ActionRef, ReturnedRef};
 use std::alloc::Global;
-use std::collections::BTreeMap;
 use std::marker::Model;
 use tag::{ClientId, Memory, OpId};
 
@@ -27,24 +27,25 @@ use tag::{ClientId, Memory, OpId};
 #[derive(Drop)]
 pub struct OpenCalls<T> {
     begun: u64,
-    calls: BTreeMap<u32, OpenCall<T>>,
+    /// How many of them are pending.
+    count: usize,
+    calls: Numbered<OpenCall<T>>,
     /// The number of each client's call.
-    clients: BTreeMap<u32, u32>,
+    clients: Numbered<u32>,
 }
 
 impl<T> Model for OpenCalls<T> {
-    ghost use Rattle.std.specs.FinMap as finite;
     ghost use Rattle.open_calls.specs.Open.{Open, open_code};
-    ghost use Rattle.open_calls.specs.Indexes.{AreIndexed, entry_at};
+    ghost use Rattle.open_calls.specs.Kept.{AreKept};
+    ghost use Rattle.open_calls.specs.Numbered.{map_of};
 
     ghost Value = { Open T };
 
     ghost coded = { open_code T.code };
 
-    ghost view = { λ o. record { begun = o.begun; calls = finite.from_entries o.calls.entries } };
+    ghost view = { λ o. record { begun = o.begun; calls = map_of o.calls } };
 
-    ghost invariant = { λ o. AreIndexed o.begun (entry_at o.calls.entries)
-        (entry_at o.clients.entries) };
+    ghost invariant = { λ o. AreKept o.begun o.count o.calls o.clients };
 }
 
 impl<T: Drop> OpenCalls<T> {
@@ -55,8 +56,9 @@ impl<T: Drop> OpenCalls<T> {
     {
         OpenCalls {
             begun: 0,
-            calls: BTreeMap::new(alloc),
-            clients: BTreeMap::new(alloc),
+            count: 0,
+            calls: Numbered::new(alloc),
+            clients: Numbered::new(alloc),
         }
     }
 
@@ -71,14 +73,14 @@ impl<T: Drop> OpenCalls<T> {
     pub fn open_count(&self) -> usize
         ensures { result ≡ finite.len self.now.calls }
     {
-        self.calls.len()
+        self.count
     }
 
     /// What is kept of the call, if it is pending.
     pub fn call(&self, op: OpId) -> Option<&OpenCall<T>>
         ensures { option_copied result ≡ call_at self.now op.0 }
     {
-        self.calls.get(&op.0)
+        self.calls.get(u64::from(op.0))
     }
 
     /// The client's pending call.
@@ -87,7 +89,7 @@ impl<T: Drop> OpenCalls<T> {
             (λ op. (call : OpenCall T) × (call_at self.now op.0 ≡ Some call)
             × (call.client ≡ client)) }
     {
-        match self.clients.get(&client.get()) {
+        match self.clients.get(u64::from(client.get())) {
             Some(number) => Some(OpId(*number)),
             None => None,
         }
@@ -150,7 +152,7 @@ impl<T: Drop> OpenCalls<T> {
         ensures ok { OnOk result (self.new ≡ with_begun self.old (begun_call client is_write payload)) }
         ensures err { OnErr result (self.new ≡ self.old) }
     {
-        let name = client.get();
+        let name = u64::from(client.get());
         self.clients.insert(name, op.0)?;
         let call = OpenCall {
             client,
@@ -158,13 +160,14 @@ impl<T: Drop> OpenCalls<T> {
             is_noted: false,
             payload,
         };
-        match self.calls.insert(op.0, call) {
-            Ok(_) => {
+        match self.calls.insert(u64::from(op.0), call) {
+            Ok(()) => {
                 self.begun += 1;
+                self.count += 1;
                 Ok(())
             }
-            Err(_) => {
-                self.clients.remove(&name);
+            Err(Memory) => {
+                self.clients.remove(name);
                 Err(Memory)
             }
         }
@@ -203,9 +206,7 @@ impl<T: Drop> OpenCalls<T> {
         ensures { (call : OpenCall T) → call_at self.old op.0 ≡ Some call
             → self.new ≡ with_note self.old op.0 call }
     {
-        if let Some(call) = self.calls.get_mut(&op.0) {
-            call.is_noted = true;
-        }
+        self.calls.note(u64::from(op.0));
     }
 
     /// Answers a pending call, and gives back what was kept of it. `NotPending` comes where the call isn't pending, else
@@ -246,9 +247,10 @@ impl<T: Drop> OpenCalls<T> {
         ensures given { result ≡ call_at self.old op.0 }
         ensures left { self.new ≡ with_answer self.old op.0 }
     {
-        let found = self.calls.remove(&op.0);
+        let found = self.calls.remove(u64::from(op.0));
         if let Some(call) = &found {
-            self.clients.remove(&call.client.get());
+            self.clients.remove(u64::from(call.client.get()));
+            self.count = self.count.saturating_sub(1);
         }
         found
     }

@@ -6,14 +6,16 @@ use Rattle.std.proofs.lemmas.Bool.Decides.{Decides-eqb}
 use Rattle.std.proofs.lemmas.List.Elements.{All-cons, All-head, All-tail}
 use Rattle.std.proofs.lemmas.List.Folds.{list_any-append}
 use Rattle.std.proofs.lemmas.Option.{get_or_from_slice_get}
-use Rattle.std.specs.BTreeMap.{BTreeMap, is_at}
+use Rattle.std.specs.BTreeMap.{is_at}
 use Rattle.std.specs.BTreeSet.{BTreeSet, UpdatesBy, contains}
 use Rattle.std.specs.List.{list_any, slice_get}
 use Rattle.std.specs.Ordering.{nat_cmp}
 use Rattle.monitored_key.specs.declared.kept_zone.KeptZone.{KeptZone}
 use Rattle.record_monitor.specs.declared.key_calls.KeyCalls.{KeyCalls}
+use Rattle.record_monitor.specs.declared.placed.Placed.{Placed}
 use Rattle.record_monitor.specs.declared.told.ToldCall.{ToldCall}
-use Rattle.record_monitor.specs.KeyCalls.{AreAmong, GoesOver, HasAnswered, HasBegun, KeepsCalls, StaysBut, call_in, has_place}
+use Rattle.record_monitor.specs.KeyCalls.{AreAmong, GoesOver, HasAnswered, HasBegun, KeepsCalls, has_place}
+use Rattle.record_monitor.specs.Placed.{StaysBut, call_in}
 use Rattle.record_monitor.specs.KeyCalls.{is_begun_at, is_ended_at, is_in, is_one_of, is_there}
 
 or_right : (a b : Bool) → b ≡ true → (a || b) ≡ true
@@ -140,7 +142,7 @@ module _ (places : BTreeSet ℕ) where
     begun_still begin one h = elim h [
       | inl x ↦ inl (ap (list_any (is_begun_at begin)) e
           ∙ any_kept (is_begun_at begin) (has_place places) old.answered.items (begun_among begin one) x)
-      | inr x ↦ inr (subst (λ (m : BTreeMap ℕ ToldCall). IsSome (call_in m begin)) (sym w) x)
+      | inr x ↦ inr (subst (λ (m : Placed). IsSome (call_in m begin)) (sym w) x)
     ]
 
     -- of a zone whose places are among these all is kept

@@ -1,5 +1,5 @@
 -- What is told stays so with a row more.
-use Rattle.std.proofs.Common.{ℕ, ◌≡◌, List, [], ◌∷◌, ◌++◌, Option, Some, None, IfSome, length, sym, ◌∙◌, subst}
+use Rattle.std.proofs.Common.{ℕ, ◌≡◌, List, [], ◌∷◌, ◌++◌, Option, Some, None, IfSome, box_value, length, option_map, sym, ◌∙◌, subst}
 use Rattle.std.proofs.lemmas.List.Elements.{All-weaker}
 use Rattle.std.specs.BTreeMap.{BTreeMap}
 use Rattle.std.specs.List.{slice_get}
@@ -13,10 +13,11 @@ use Rattle.record_monitor.specs.declared.key_calls.KeyCalls.{KeyCalls}
 use Rattle.record_monitor.specs.declared.key_calls.ReadNote.{ReadNote}
 use Rattle.record_monitor.specs.declared.told.Told.{Told}
 use Rattle.record_monitor.specs.declared.told.Told.TheVariants as told
+use Rattle.record_monitor.specs.declared.placed.Placed.{Placed}
 use Rattle.record_monitor.specs.declared.told.ToldCall.{ToldCall}
 use Rattle.record_monitor.specs.declared.told.ToldSide.{ToldSide}
 use Rattle.record_monitor.specs.declared.watched.Watched.{Watched}
-use Rattle.record_monitor.specs.Followed.{AreTold, KeepsTold}
+use Rattle.record_monitor.specs.Followed.{AreTold, KeepsTold, told_of}
 use Rattle.record_monitor.specs.KeyCalls.{AreNotes, AreToldAt, KnowsCalls}
 use Rattle.record_monitor.specs.Told.{AnswersWith, HasAnswerAt, HasNoteAt, IsBareCall, IsTold, IsToldCall, IsToldSide}
 
@@ -71,7 +72,7 @@ module _ (rows : List Row) (row : Row) where
           (λ place a. (a.0, slice_get-push_left rows row place (Respond call.op a.0) a.1)) t.answered;
     }
 
-    placed_on : (map : BTreeMap ℕ ToldCall) → AreToldAt rows key map → AreToldAt after key map
+    placed_on : (map : Placed) → AreToldAt rows key map → AreToldAt after key map
     placed_on map t place call at = let w = t place call at in (told_on call w.0, w.1)
 
     notes_on : (notes : BTreeMap ℕ ReadNote) → AreNotes rows notes → AreNotes after notes
@@ -111,12 +112,12 @@ module _ (rows : List Row) (row : Row) where
     pub are_told_on : (watched : Watched) → AreTold rows key watched → AreTold after key watched
     are_told_on watched t = record {
       calls = knows_on watched.calls t.calls;
-      told = if_weaker (IsTold rows key) (IsTold after key) watched.told (λ it is. is_told_on it is) t.told;
+      told = if_weaker (IsTold rows key) (IsTold after key) (told_of watched) (λ it is. is_told_on it is) t.told;
     }
 
 -- a step that changes nothing of it leaves it told
 pub told_kept : (rows : List Row) (key : List ℕ) (old new : Watched) → KeepsTold old new → AreTold rows key old → AreTold rows key new
 told_kept rows key old new k t = record {
   calls = subst (KnowsCalls rows key) (sym k.calls) t.calls;
-  told = subst (λ (o : Option Told). IfSome o (IsTold rows key)) (sym k.told) t.told;
+  told = subst (λ o. IfSome (option_map box_value o) (IsTold rows key)) (sym k.told) t.told;
 }

@@ -1,6 +1,6 @@
 -- What is known of one key of a record.
 use Rattle.std.specs.Prelude.{ℕ, ◌≡◌, ◌<◌, ◌≤◌, ◌+◌, Bool, false, List, Option, Some, None}
-use Rattle.std.specs.Prelude.{IfSome, is_none, length}
+use Rattle.std.specs.Prelude.{IfSome, box_value, is_none, length, option_map}
 use Rattle.tag.specs.declared.actions.Action.{Action}
 use Rattle.recorder.specs.declared.part.Call.{Call}
 use Rattle.recorder.specs.declared.row.Row.{Row}
@@ -51,10 +51,14 @@ abbrev pub FollowsState : List Row → List ℕ → List ℕ → Watched → Typ
 FollowsState rows key gone watched =
     IfSome watched.state (IsFollowed rows key gone watched.is_doubtful)
 
+-- what is told of the key's refusal
+abbrev pub told_of : Watched → Option Told
+told_of watched = option_map box_value watched.told
+
 -- what is kept of the calls of the key, and what is told of them, is so
 pub record AreTold (rows : List Row) (key : List ℕ) (watched : Watched) : Type 0 where
   pub calls : KnowsCalls rows key watched.calls
-  pub told : IfSome watched.told (IsTold rows key)
+  pub told : IfSome (told_of watched) (IsTold rows key)
 
 -- both
 abbrev pub FollowsKey : List Row → List ℕ → List ℕ → Watched → Type 0
@@ -101,7 +105,7 @@ kept_in (Some held) = length held.writes
 abbrev pub kept_of : Watched → ℕ
 kept_of watched = kept_in watched.state
 
--- what is told of a key's refusal
+-- what is told of the refusal of a key, if there is one
 abbrev pub told_in : Option Watched → Option Told
 told_in None = None
-told_in (Some watched) = watched.told
+told_in (Some watched) = told_of watched

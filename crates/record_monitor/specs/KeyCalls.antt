@@ -1,5 +1,5 @@
 -- What is kept of the calls of a key, for what is told.
-use Rattle.std.specs.Prelude.{ℕ, ◌≡◌, ◌≢◌, ◌⊎◌, ◌||◌, ◌==◌, Bool, false, List, Option, Some, None}
+use Rattle.std.specs.Prelude.{ℕ, ◌≡◌, ◌⊎◌, ◌||◌, ◌==◌, Bool, false, List, Option, Some, None}
 use Rattle.std.specs.Prelude.{IfSome, IsSome, IsTrue, All}
 use Rattle.std.specs.BTreeMap.{BTreeMap}
 use Rattle.std.specs.BTreeSet.{BTreeSet, contains}
@@ -10,21 +10,10 @@ use Rattle.monitored_key.specs.declared.kept_zone.KeptZone.{KeptZone}
 use Rattle.monitored_key.specs.Maps.{entry_at}
 use Rattle.record_monitor.specs.declared.key_calls.KeyCalls.{KeyCalls}
 use Rattle.record_monitor.specs.declared.key_calls.ReadNote.{ReadNote}
+use Rattle.record_monitor.specs.declared.placed.Placed.{Placed}
 use Rattle.record_monitor.specs.declared.told.ToldCall.{ToldCall}
+use Rattle.record_monitor.specs.Placed.{call_in}
 use Rattle.record_monitor.specs.Told.{HasNoteAt, IsToldCall}
-
--- what the map has there, if it has a call there
-abbrev pub call_in : BTreeMap ℕ ToldCall → ℕ → Option ToldCall
-call_in map place = entry_at map.entries place
-
--- where the one map has a call, the other has one
-abbrev pub StaysIn : BTreeMap ℕ ToldCall → BTreeMap ℕ ToldCall → Type 0
-StaysIn old new = (place : ℕ) → IsSome (call_in old place) → IsSome (call_in new place)
-
--- so it is at each place but one
-abbrev pub StaysBut : ℕ → BTreeMap ℕ ToldCall → BTreeMap ℕ ToldCall → Type 0
-StaysBut one old new =
-    (place : ℕ) → place ≢ one → IsSome (call_in old place) → IsSome (call_in new place)
 
 -- whether the call began there
 abbrev pub is_begun_at : ℕ → ToldCall → Bool
@@ -89,9 +78,9 @@ AreNotes rows notes = (place : ℕ) (noted : ReadNote) → entry_at notes.entrie
     → HasNoteAt rows noted.op noted.note
 
 module _ (rows : List Row) (key : List ℕ) where
-  -- each call of the map is one of the rows, and began where it stands
-  abbrev pub AreToldAt : BTreeMap ℕ ToldCall → Type 0
-  AreToldAt map = (place : ℕ) (call : ToldCall) → call_in map place ≡ Some call
+  -- each of the calls is one of the rows, and began where it stands
+  abbrev pub AreToldAt : Placed → Type 0
+  AreToldAt calls = (place : ℕ) (call : ToldCall) → call_in calls place ≡ Some call
       → IsToldCall rows key call × (call.begun ≡ place)
 
   -- all that is kept is of the rows

@@ -7,3 +7,4 @@ pub mod Ended
 pub mod Watched
 pub mod Taken
 pub mod Monitored
+pub mod Placed

@@ -3,20 +3,18 @@ ghost use Rattle.std.specs.Prelude.{◌≡◌, [], ◌∷◌, ◌++◌, ℕ, tru
 ghost use Rattle.std.specs.Option.{option_copied};
 ghost use Rattle.recorder.specs.declared.row.Row.{Row};
 ghost use Rattle.monitored_key.specs.declared.kept_zone.KeptZone.{KeptZone as Zone};
-ghost use Rattle.monitored_key.specs.Maps.{Sets};
 ghost use Rattle.record_monitor.specs.KeyCalls.{AreAmong, AreNotes, AreToldAt, GoesOver, HasAnswered, HasBegun};
-ghost use Rattle.record_monitor.specs.KeyCalls.{KeepsAll, KeepsCalls, KnowsCalls, StaysBut, StaysIn};
-ghost use Rattle.record_monitor.specs.KeyCalls.{call_in, has_place, is_begun_at, is_ended_at};
+ghost use Rattle.record_monitor.specs.KeyCalls.{KeepsAll, KeepsCalls, KnowsCalls};
+ghost use Rattle.record_monitor.specs.Placed.{StaysBut, StaysIn};
+ghost use Rattle.record_monitor.specs.KeyCalls.{has_place, is_begun_at, is_ended_at};
 ghost use Rattle.record_monitor.specs.Told.{EndedAs, HasAnswerAt, HasNoteAt, IsToldCall};
 
+use crate::placed::Placed;
 use crate::told::{ToldCall, ToldNote};
 use monitored_key::KeptZone;
 use std::alloc::Global;
 use std::collections::{BTreeMap, BTreeSet};
 use tag::{Memory, OpId};
-
-/// Calls, each at the place where it began.
-type Placed = BTreeMap<u64, ToldCall>;
 
 /// So few answered calls are kept without asking which of them are needed.
 const FEW: usize = 16;
@@ -54,48 +52,6 @@ pub(crate) struct KeyCalls {
     needed: usize,
 }
 
-/// The call that began at the place is noted, if it is there.
-fn note_in(calls: &mut Placed, begin: u64, op: OpId, note: &ToldNote)
-    ensures told { (rows : List Row) (key : List ℕ) → AreToldAt rows key calls.old
-        → HasNoteAt rows op note.now → AreToldAt rows key calls.new }
-    ensures stays { StaysIn calls.old calls.new }
-{
-    match calls.get_mut(&begin) {
-        Some(call) => {
-            if call.op.0 == op.0 {
-                call.noted = Some(*note);
-            }
-        }
-        None => (),
-    }
-}
-
-/// Puts the call where it began.
-fn put(calls: &mut Placed, call: &ToldCall) -> Result<(), Memory>
-    ensures { OnOk result (Sets (call_in calls.old) call.now.begun call.now (call_in calls.new)) }
-{
-    let ToldCall {
-        op,
-        client,
-        is_write,
-        begun,
-        noted,
-        answered,
-    } = *call;
-    calls.insert(
-        begun,
-        ToldCall {
-            op,
-            client,
-            is_write,
-            begun,
-            noted,
-            answered,
-        },
-    )?;
-    Ok(())
-}
-
 /// Adds the call.
 fn add(calls: &mut Vec<ToldCall>, call: &ToldCall) -> Result<(), Memory>
     ensures { OnOk result (calls.new.items ≡ calls.old.items ++ call.now ∷ []) }
@@ -127,7 +83,7 @@ fn take_write(writes: &mut Placed, begin: u64, op: OpId) -> Option<ToldNote>
         → AreToldAt rows key writes.new }
     ensures stays { StaysBut begin writes.old writes.new }
 {
-    match writes.remove(&begin) {
+    match writes.take(begin) {
         Some(call) if call.op.0 == op.0 => call.noted,
         _ => None,
     }
@@ -198,7 +154,7 @@ impl KeyCalls {
     {
         KeyCalls {
             alloc,
-            writes: BTreeMap::new(alloc),
+            writes: Placed::new(alloc),
             notes: BTreeMap::new(alloc),
             answered: Vec::new(alloc),
             first: None,
@@ -214,7 +170,7 @@ impl KeyCalls {
         ensures here { OnOk result (call.now.is_write ≡ true → HasBegun self.new call.now.begun) }
     {
         if call.is_write {
-            put(&mut self.writes, call)
+            self.writes.put(call)
         } else {
             Ok(())
         }
@@ -233,7 +189,7 @@ impl KeyCalls {
         ensures keeps { KeepsAll self.old self.new }
     {
         if is_write {
-            note_in(&mut self.writes, begin, op, note);
+            self.writes.note(begin, op, note);
             return Ok(());
         }
         self.notes.insert(begin, ReadNote { op, note: *note })?;
@@ -327,7 +283,7 @@ impl KeyCalls {
     {
         match begun_in(self.answered.as_slice(), begin) {
             Some(call) => Some(*call),
-            None => self.writes.get(&begin).copied(),
+            None => self.writes.get(begin),
         }
     }
 

@@ -6,6 +6,7 @@
 
 mod key_calls;
 pub mod laws;
+mod placed;
 mod record_monitor;
 mod report;
 mod taken;

@@ -1,6 +1,6 @@
 //! One key of a record.
 ghost use Rattle.std.specs.Prelude.{◌≡◌, ◌<◌, ◌≤◌, ◌+◌, ◌^◌, ℕ, [], ◌∷◌, ◌++◌, List, None, Some, true, false, Contains, IfOk, IfSome};
-ghost use Rattle.std.specs.Prelude.{IsSome, OnOk, length, slice_get};
+ghost use Rattle.std.specs.Prelude.{IsSome, OnOk, box_value, length, option_map, slice_get};
 ghost use Rattle.std.specs.Option.{option_copied};
 ghost use Rattle.tag.specs.declared.actions.Action.TheVariants as asked;
 ghost use Rattle.tag.specs.declared.actions.Returned.TheVariants as answered;
@@ -14,7 +14,7 @@ ghost use Rattle.monitored_key.specs.Changes.{nothing_held};
 ghost use Rattle.monitored_key.specs.Held.{IsLost, state_of};
 ghost use Rattle.record_monitor.specs.Ended.{HasEnded, first_doubt};
 ghost use Rattle.record_monitor.specs.Followed.{AreTold, FollowsBegun, FollowsFirst, FollowsKey, FollowsState, GoesOn, IsNextAt};
-ghost use Rattle.record_monitor.specs.Followed.{IsNumberedAt, KeepsState, KeepsTold, is_doubtful, is_refused, kept_of};
+ghost use Rattle.record_monitor.specs.Followed.{IsNumberedAt, KeepsState, KeepsTold, is_doubtful, is_refused, kept_of, told_of};
 ghost use Rattle.record_monitor.specs.Told.{AnswersWith, HasAnswerAt, HasNoteAt, IsBareCall, IsToldCall};
 ghost use Rattle.record_monitor.specs.Waiting.{AreGivenUp};
 
@@ -36,8 +36,18 @@ pub(crate) struct Watched {
     is_doubtful: bool,
     /// Those of its calls by which a refusal would be told.
     calls: KeyCalls,
-    /// Why it was refused.
-    told: Option<Told>,
+    /// Why it was refused, in a block of its own, since few keys are.
+    told: Option<Box<Told>>,
+}
+
+/// What is told, in a block of its own.
+fn boxed(alloc: Global, told: Option<Told>) -> Result<Option<Box<Told>>, Memory>
+    ensures { IfOk result (λ boxed. option_map box_value boxed ≡ told) }
+{
+    match told {
+        Some(told) => Ok(Some(Box::new(alloc, told)?)),
+        None => Ok(None),
+    }
 }
 
 /// A call of the key begins.
@@ -81,9 +91,12 @@ impl Watched {
 
     /// Why it was refused.
     pub(crate) fn told(&self) -> Option<&Told>
-        ensures { option_copied result ≡ self.now.told }
+        ensures { option_copied result ≡ told_of self.now }
     {
-        self.told.as_ref()
+        match &self.told {
+            Some(told) => Some(told.as_ref()),
+            None => None,
+        }
     }
 
     /// How many of its families are kept.
@@ -293,7 +306,8 @@ impl Watched {
         let Some(state) = self.state.take() else {
             return Ok(());
         };
-        self.told = tell(&self.calls, &state, read, value, refusal)?;
+        let told = tell(&self.calls, &state, read, value, refusal)?;
+        self.told = boxed(self.calls.alloc(), told)?;
         self.calls.clear();
         Ok(())
     }

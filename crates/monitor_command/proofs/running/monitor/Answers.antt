@@ -37,6 +37,7 @@ returns-then-branch g c =
     let block = take c.in-Ok-read_counted.count c.read_counted.new.block in
     let P : Bool → Type 0 = λ stops. (bytes : List ℕ) → Stands bytes c.reads.session.feed → GoesOn mid writer.new c.args.asked.form (bytes ++ block) (Ok stops) c.judge.new.self.feed in
     refused_by reader writer c.args.asked mid c.reads.session.feed before block c.judge.new.self.feed c.reads.invariant.holds c.in-Ok-read_counted.ensures.bytes.0 c.reads.invariant.sent
+    (c.in_ok-judge-in-Ok-read_counted.ensures.asked c.if-branch.true)
     (subst P c.if-branch.true c.in_ok-judge-in-Ok-read_counted.ensures.goes)
 
 pub reads-preserved : goal.reads-preserved

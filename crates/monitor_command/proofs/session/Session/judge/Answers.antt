@@ -1,4 +1,4 @@
-use Rattle.std.proofs.Common.{ℕ, List, ◌++◌, Err, Option, ap, ◌∙◌, subst, sym}
+use Rattle.std.proofs.Common.{◌++◌, Err, Option, ap, ◌∙◌, subst, sym}
 use Rattle.history_file.specs.declared.taken_rows.LongHistory.{LongHistory}
 use Rattle.record_monitor.specs.declared.taken.Taken.{Taken}
 use Rattle.monitor_command.specs.Files.{HasSeen}

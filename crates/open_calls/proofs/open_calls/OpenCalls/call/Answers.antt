@@ -1,6 +1,6 @@
 use Rattle.std.proofs.Common.{sym, ◌∙◌}
-use Rattle.open_calls.proofs.Maps.{get-entries}
+use Rattle.open_calls.proofs.Mapped.{get_map}
 use Rattle.open_calls.proofs.open_calls.OpenCalls.call.Goals as goal
 
 pub returns : goal.returns
-returns g c = rw (← c.self.view_is) (c.get.ensures.value ∙ sym (get-entries c.self.inside.calls.entries c.args.op.0))
+returns g c = rw (← c.self.view_is) (rw c.from.ensures at c.get.ensures ∙ sym (get_map c.self.inside.calls c.self.invariant.calls_fit c.args.op.0))

@@ -1,44 +1,33 @@
-use Rattle.std.proofs.Common.{◌≡◌, IsSome, Some, true, ap, sym, ◌∙◌, refl}
-use Rattle.std.proofs.lemmas.Option.{none-some, same_Some}
-use Rattle.open_calls.specs.declared.open_call.OpenCall.{OpenCall}
-use Rattle.open_calls.specs.Indexes.{entry_at}
-use Rattle.open_calls.proofs.Indexing.{indexed_noted}
-use Rattle.open_calls.proofs.Keeping.{is_there, there_is}
-use Rattle.open_calls.proofs.Maps.{get-entries, sets_from}
+use Rattle.std.proofs.Common.{◌≡◌, IsSome, Some, sym, ◌∙◌}
+use Rattle.open_calls.specs.Numbered.{noted_call, value_in}
+use Rattle.open_calls.proofs.Keeping.{there_is}
+use Rattle.open_calls.proofs.KeptCalls.{kept_noted}
+use Rattle.open_calls.proofs.Mapped.{count_again, get_map}
 use Rattle.open_calls.proofs.Views.{view_noted}
 use Rattle.open_calls.proofs.open_calls.OpenCalls.set_note.Goals as goal
-use Rattle.open_calls.proofs.open_calls.OpenCalls.set_note.Goals.{in-Some, in_default}
+
+pub note-requires-clause-fit : goal.note-requires-clause-fit
+note-requires-clause-fit g c = c.self.invariant.calls_fit
+
+pub note-requires-clause-there : goal.note-requires-clause-there
+note-requires-clause-there g c =
+    let some : IsSome (value_in c.self.inside.calls c.args.op.0) = rw (get_map c.self.inside.calls c.self.invariant.calls_fit) at (rw (← c.self.view_is) at c.requires) in
+    rw c.from.ensures some
 
 pub invariant_of-self : goal.invariant_of-self
 invariant_of-self g c =
     let i = c.self.inside in
-    elim c.match-get_mut.branch [
-      | in-Some w ↦
-          let call = w.in-Some.call.now in
-          let noted : OpenCall g.row.T.Denot = record call { is_noted = true } in
-          let found : entry_at i.calls.entries c.args.op.0 ≡ Some call = sym w.in-Some.ensures.value in
-          let new = c.get_mut.follows.lender noted in
-          rw w.self-inside-is (indexed_noted i.begun (entry_at i.calls.entries) (entry_at i.clients.entries) c.self.invariant c.args.op.0 call noted found refl (entry_at new.entries)
-          (sets_from i.calls new c.args.op.0 (Some noted) ((c.get_mut.follows.holds noted).3 (is_there (entry_at i.calls.entries c.args.op.0) call found))))
-      | in_default w ↦
-          let some : IsSome (entry_at i.calls.entries c.args.op.0) = rw get-entries at (rw (← c.self.view_is) at c.requires) in
-          let t = there_is (entry_at i.calls.entries c.args.op.0) some in
-          absurd (none-some t.0 (w.in_default.ensures.value ∙ t.1))
-    ]
+    let kept = c.self.invariant in
+    let some : IsSome (value_in i.calls c.args.op.0) = rw (get_map i.calls kept.calls_fit) at (rw (← c.self.view_is) at c.requires) in
+    let t = there_is (value_in i.calls c.args.op.0) some in
+    let sets = rw c.from.ensures at c.note.ensures.noted in
+    kept_noted i.begun i.count i.calls i.clients kept c.args.op.0 t.0 c.note.new.self t.1 c.note.ensures.fit (sets t.0 t.1)
+    (count_again i.calls c.note.new.self kept.calls_fit c.note.ensures.fit c.args.op.0 (noted_call t.0) t.0 t.1 (sets t.0 t.1))
 
 pub returns : goal.returns
 returns g c = λ call is.
     let i = c.self.inside in
-    let at : entry_at i.calls.entries c.args.op.0 ≡ Some call = sym (get-entries i.calls.entries c.args.op.0) ∙ (rw (← c.self.view_is) at is) in
-    elim c.match-get_mut.branch [
-      | in-Some w ↦
-          let held = w.in-Some.call.now in
-          let noted : OpenCall g.row.T.Denot = record held { is_noted = true } in
-          let found : entry_at i.calls.entries c.args.op.0 ≡ Some held = sym w.in-Some.ensures.value in
-          let same : held ≡ call = same_Some held call (sym found ∙ at) in
-          let new = c.get_mut.follows.lender noted in
-          rw (w.self-inside-is, ← c.self.view_is)
-          (view_noted i.begun c.args.op.0 i.calls new call noted (ap (λ (x : OpenCall g.row.T.Denot). record x { is_noted = true }) same)
-          ((c.get_mut.follows.holds noted).3 (is_there (entry_at i.calls.entries c.args.op.0) held found)))
-      | in_default w ↦ absurd (none-some call (w.in_default.ensures.value ∙ at))
-    ]
+    let kept = c.self.invariant in
+    let at : value_in i.calls c.args.op.0 ≡ Some call = sym (get_map i.calls kept.calls_fit c.args.op.0) ∙ (rw (← c.self.view_is) at is) in
+    let sets = rw c.from.ensures at c.note.ensures.noted in
+    rw (← c.self.view_is) (view_noted i.calls c.note.new.self kept.calls_fit c.note.ensures.fit i.begun c.args.op.0 call (sets call at))

@@ -20,5 +20,5 @@ returns-in-None-clause-there c = λ there.
     ap (find (is_begun_at c.args.begin)) (sym c.as_slice.ensures.value) ∙ (sym c.begun_in.ensures ∙ ap option_copied c.in-None.is) in
     elim there [
       | inl a ↦ absurd (false≢true (sym (ap is_some none) ∙ any_found (is_begun_at c.args.begin) calls a))
-      | inr w ↦ ap is_some (c.copied.ensures ∙ c.get.ensures.value) ∙ w
+      | inr w ↦ ap is_some c.get.ensures ∙ w
     ]

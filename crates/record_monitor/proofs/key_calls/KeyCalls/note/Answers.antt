@@ -1,12 +1,12 @@
 use Rattle.record_monitor.proofs.Entries.{sets_entry}
 use Rattle.record_monitor.specs.Told.{HasNoteAt}
 use Rattle.monitored_key.specs.Maps.{entry_at}
-use Rattle.record_monitor.proofs.PlacedCalls.{all_set}
+use Rattle.record_monitor.proofs.PlacedCalls.{all_set, told_noted}
 use Rattle.record_monitor.proofs.key_calls.KeyCalls.note.Goals as goal
 
 pub returns-then-is_write-clause-knows : goal.returns-then-is_write-clause-knows
 returns-then-is_write-clause-knows c = λ rows key k note. record {
-  writes = c.note_in.ensures.told rows key k.writes note;
+  writes = told_noted rows key c.args.self.now.writes c.note.new.self c.args.begin c.args.op c.args.note.now c.note.ensures.at note k.writes;
   notes = k.notes;
   answered = k.answered;
   first = k.first;
