@@ -1,8 +1,9 @@
-"""long_history.py --calls N [--keys K] [--clients C] [--pending PERCENT] [--reads PERCENT] [--late-reader LINES] [--fault] [--seed S]
+"""long_history.py --calls N [--keys K] [--half] [--clients C] [--pending PERCENT] [--reads PERCENT] [--late-reader LINES] [--fault] [--seed S]
 
 Writes an atomic history of any length to standard output, some millions of lines a second. C calls at a time begin, take effect one after
 another, and end. PERCENT of the calls never end: a client that nobody was takes the place of theirs, as long as there are clients (65,535).
-With --late-reader a read begins first, and ends once so many lines have come. With --fault a read of a value that nobody wrote comes last.
+With --half the key k0 has half of the calls. With --late-reader a read begins first, and ends once so many lines have come. With --fault a
+read of a value that nobody wrote comes last.
 
 A block of lines is a template with places for numbers: of calls, clients and keys. Each block has a template that was drawn at first, the
 next numbers of calls, and its keys moved on by a drawn number. A read answers what was written before it in its block, or is a write.
@@ -31,6 +32,10 @@ class Template:
         self.fresh = 0
         self.seats = list(range(words.clients))
         self.keys = [draw.randrange(words.keys) for _ in range(self.calls)]
+        self.first_key = 0
+        if words.half:
+            self.first_key = 1
+            self.keys = [key % (words.keys - 1) if draw.random() < 0.5 else None for key in self.keys]
         self.clients_at, self.keys_at = self.calls, self.calls + words.clients + (self.calls if pending else 0)
         lines, numbers, last = [], [], {}
         for first in range(0, self.calls, words.clients):
@@ -63,7 +68,9 @@ class Template:
     def block(self, first, clients, shift, keys):
         """The block whose calls begin at that number, and the clients after it. The clients are those of the seats, and fresh ones."""
         room = self.keys_at - self.clients_at
-        table = [*range(first, first + self.calls), *clients, *[0] * (room - len(clients)), *[(key + shift) % keys for key in self.keys]]
+        others = keys - self.first_key
+        moved = [0 if key is None else self.first_key + (key + shift) % others for key in self.keys]
+        table = [*range(first, first + self.calls), *clients, *[0] * (room - len(clients)), *moved]
         return self.text % self.numbers(table), [clients[seat] for seat in self.seats]
 
 
@@ -99,6 +106,7 @@ def main():
     parser = argparse.ArgumentParser(description=__doc__, formatter_class=argparse.RawDescriptionHelpFormatter)
     parser.add_argument("--calls", type=int, default=1_000_000)
     parser.add_argument("--keys", type=int, default=100)
+    parser.add_argument("--half", action="store_true")
     parser.add_argument("--clients", type=int, default=16)
     parser.add_argument("--pending", type=float, default=0)
     parser.add_argument("--reads", type=float, default=50)

@@ -18,7 +18,7 @@ import tempfile
 SUITES = ("must-fail", "inner-edits")
 USAGE = "usage: scripts/edits.sh [--since COMMIT] [--gate | --inner] [--alone | --applied] [NAME[/EDIT]..]"
 # How many edits one check tries at most.
-TOGETHER = 6
+TOGETHER = 12
 FUNCTION = r"(\s*)(pub(\([a-z]+\))? )?(const )?(unsafe )?fn (\w+)"
 # An error of the source: what the edit wrote can't be compiled.
 SPOILT = r"(\./)?src/.*(is not in scope|expected|no field|mismatch)"

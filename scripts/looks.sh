@@ -16,6 +16,7 @@ checks=(
   "python3 scripts/verbs.py $abd"
   "python3 scripts/monitor_pipes.py $abd"
   "python3 scripts/monitor_prefixes.py $abd 200"
+  "python3 scripts/split_pieces.py $abd"
   "python3 scripts/broken_bytes.py $abd"
   "python3 scripts/pages.py $abd 20"
   "scripts/pictures.sh $abd --check"

@@ -5,8 +5,8 @@ that has docs and examples as a reader has them.
 
 A snippet is a line of an indented block that begins with `$ `. It has to end with 0, or as a comment behind it says: `# status 1`. Below it
 stands what it prints, on standard output and standard error; `..` stands for any lines. Where nothing stands, or the comment says `each run
-differs`, anything may come. Blocks with etcd or redis-server are passed over if these aren't installed, which is said, or with
-`--without-servers`.
+differs`, anything may come. Blocks with etcd, redis-server or GNU parallel are passed over if these aren't installed, which is said, or
+with `--without-servers`.
 
 Ends with status 1 if a snippet prints something else or ends otherwise.
 """
@@ -21,7 +21,7 @@ from dataclasses import dataclass, field
 
 TOP = os.path.realpath(os.path.join(os.path.dirname(os.path.abspath(__file__)), ".."))
 DOCUMENTS = ["docs/USING.md", "docs/TEACHING.md", "README.md"]
-SERVERS = {"etcd.py": "etcd", "redis.py": "redis-server"}
+SERVERS = {"etcd.py": "etcd", "redis.py": "redis-server", "parallel ": "parallel"}
 SECONDS = 120
 
 
@@ -40,8 +40,8 @@ class Snippet:
         return int(said[1]) if said else 0
 
     def servers(self):
-        """The servers that it wants."""
-        return {server for script, server in SERVERS.items() if script in self.command}
+        """The servers, or other programs, that it wants."""
+        return {program for word, program in SERVERS.items() if word in self.command}
 
     def is_met(self, status, lines):
         """Whether it should end and print so."""

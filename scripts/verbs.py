@@ -7,6 +7,7 @@ Ends with status 1 then.
 """
 
 import contextlib
+import itertools
 import os
 import subprocess
 import sys
@@ -96,8 +97,47 @@ def add_monitor():
         add(2, f"monitor {words}", "error: ", source="good.history")
 
 
+def add_split():
+    """The runs of `split`, each into a folder of its own, on a file and on the same file as standard input."""
+    folders = (f"pieces{count}" for count in itertools.count())
+    for name, status, errors in (
+        ("good.history", 0, ""),
+        ("late.history", 0, ""),
+        ("bad.history", 3, "line 2: fault 1 not JSON"),
+        ("busy.history", 3, "line 3: fault 7 client busy"),
+        ("cut.history", 3, "line 3: fault 1 not JSON"),
+        ("wide.history", 3, "line 2: fault 11 line too long"),
+        ("halls.history", 3, "line 1: fault 3 version"),
+        ("good.orders", 3, "line 1: fault 2 no header"),
+        (".", 4, "line 1: fault 13 device"),
+    ):
+        for parts in (1, 3):
+            options = f"--parts {parts} --into"
+            add(status, f"split {name} {options} {next(folders)}", errors and f"abd: {name}: {errors}")
+            add(status, f"split {options} {next(folders)}", errors and f"abd: standard input: {errors}", source=name)
+    add(0, f"split good.history --parts 1000 --into {next(folders)}")
+    options = "good.history --parts 2"
+    add(3, "split missing --parts 2 --into pieces", "abd: missing: cannot open")
+    add(3, f"split {options} --into .", "abd: .: isn't empty")
+    add(3, f"split {options} --into good.history", "abd: good.history: cannot read the folder: Not a directory (os error 20)")
+    add(3, f"split {options} --into no/pieces", "abd: no/pieces: cannot make the folder: No such file or directory (os error 2)")
+    for words in (
+        "",
+        "good.history",
+        options,
+        "good.history --into pieces",
+        *[f"good.history --into pieces --parts {parts}" for parts in ("0", "1001", "x", "1.5", "-1", "")],
+        f"{options} --into",
+        f"{options} --into pieces more",
+        f"{options} --into pieces --json",
+        f"{options} --into pieces --parts 2",
+    ):
+        add(2, f"split {words}", "error: ")
+
+
 def add_all():
     add_monitor()
+    add_split()
     for command in ("justify", "simulate", "decide", "explain", "draw", "trace"):
         add_files(command)
     add_files("trace", " --draw")
@@ -157,7 +197,7 @@ def add_all():
     add(2, "run --ask 2", "abd: ")
     add(2, "run good.script", "error: ")
     add(4, "run --callers 1 --calls 2", FULL, full=True)
-    commands = ("check", "decide", "draw", "explain", "justify", "monitor", "run", "simulate", "trace")
+    commands = ("check", "decide", "draw", "explain", "justify", "monitor", "run", "simulate", "split", "trace")
     for words in ("--help", "--version", *[f"{command} --help" for command in commands], *[f"help {command}" for command in commands]):
         add(0, words)
         add(4, words, FULL, full=True)
@@ -180,7 +220,7 @@ def shown(words, full, source):
     return f"abd {words}{f' < {source}' if source else ''}{' > /dev/full' if full else ''}"
 
 
-def wrongs(ran, status, errors, full):
+def wrongs(ran, words, status, errors, full):
     """What is otherwise than it should be."""
     found = ran.stderr.decode(errors="replace")
     if ran.returncode != status:
@@ -192,6 +232,8 @@ def wrongs(ran, status, errors, full):
     if full:
         return
     is_written = status == 0 or (status in (1, 5) and (not errors or "orders" in ran.stdout.decode()))
+    if words[:6] == "split " and words != "split --help":
+        is_written = False
     if is_written != (ran.stdout != b""):
         yield "standard output has something" if ran.stdout else "standard output has nothing"
 
@@ -354,7 +396,7 @@ def main():
             with open(os.path.join(place, name), "w", encoding="utf-8") as file:
                 file.write(text)
         for words, status, errors, full, source in CASES:
-            for wrong in wrongs(run(abd, place, words, full, source), status, errors, full):
+            for wrong in wrongs(run(abd, place, words, full, source), words, status, errors, full):
                 bad = True
                 print(f"{shown(words, full, source)}: {wrong}")
         for wrongs_of in (explained_otherwise, two_pipes_wrongs, long_wrongs, replaced_wrongs, changed_wrongs):

@@ -10,7 +10,7 @@ import sys
 
 PAGES = {
     "docs/abd.1": r"(?:Fl Fl |^\.Nm\n\.Cm )([a-z-]+)",
-    "docs/completions/abd.bash": r"--([a-z-]+)|(?<=[ \"])(check|decide|draw|explain|justify|monitor|simulate|trace|run)(?=[ \"])",
+    "docs/completions/abd.bash": r"--([a-z-]+)|(?<=[ \"])(check|decide|draw|explain|justify|monitor|simulate|split|trace|run)(?=[ \"])",
     "docs/completions/_abd": r"--([a-z-]+)\[|'([a-z]+):",
     "docs/completions/abd.fish": r"^complete.* -l ([a-z-]+)|-f -a ([a-z-]+)",
 }
@@ -36,7 +36,7 @@ def main():
         for word in sorted(wanted - found):
             bad = True
             print(f"{page} lacks {word}")
-        for word in sorted(found - wanted - {"help", "check", "decide", "draw", "explain", "justify", "monitor", "simulate", "trace", "run"}):
+        for word in sorted(found - wanted - {"help", "check", "decide", "draw", "explain", "justify", "monitor", "simulate", "split", "trace", "run"}):
             bad = True
             print(f"{page} has {word}, which abd doesn't take")
     print("all words stand in each" if not bad else f"abd takes {' '.join(sorted(wanted))}")

@@ -4,7 +4,7 @@ _abd() {
   local word=${COMP_WORDS[COMP_CWORD]} before=${COMP_WORDS[COMP_CWORD - 1]} command=${COMP_WORDS[1]} options
   COMPREPLY=()
   if [ "$COMP_CWORD" -eq 1 ]; then
-    mapfile -t COMPREPLY < <(compgen -W "check decide draw explain justify monitor simulate trace run help --help --version" -- "$word")
+    mapfile -t COMPREPLY < <(compgen -W "check decide draw explain justify monitor simulate split trace run help --help --version" -- "$word")
     return
   fi
   case $before in
@@ -16,7 +16,11 @@ _abd() {
       mapfile -t COMPREPLY < <(compgen -W "tags values" -- "$word")
       return
       ;;
-    --workers | --key | --most | --around | --give-up | --replicas | --callers | --calls | --keys | --rounds | --drop | --double | --halls | --show | --votes | --ask | --put)
+    --into)
+      mapfile -t COMPREPLY < <(compgen -d -- "$word")
+      return
+      ;;
+    --workers | --parts | --key | --most | --around | --give-up | --replicas | --callers | --calls | --keys | --rounds | --drop | --double | --halls | --show | --votes | --ask | --put)
       return
       ;;
   esac
@@ -27,12 +31,13 @@ _abd() {
     explain) options="--key --most --help" ;;
     justify) options="--by --unchecked --help" ;;
     monitor) options="--all --give-up --json --help" ;;
+    split) options="--parts --into --help" ;;
     trace) options="--most --draw --help" ;;
     run)
       options="--replicas --callers --calls --keys --rounds --drop --double --halls --show --reads --votes --ask --put --help"
       ;;
     help)
-      mapfile -t COMPREPLY < <(compgen -W "check decide draw explain justify monitor simulate trace run" -- "$word")
+      mapfile -t COMPREPLY < <(compgen -W "check decide draw explain justify monitor simulate split trace run" -- "$word")
       return
       ;;
     *) options="--help" ;;

@@ -1,6 +1,6 @@
 # Completion of abd's words for fish: install it as vendor_completions.d/abd.fish.
 
-set -l commands check decide draw explain justify monitor simulate trace run help
+set -l commands check decide draw explain justify monitor simulate split trace run help
 complete -c abd -n "not __fish_seen_subcommand_from $commands" -f -l help -s h -d "say what abd takes"
 complete -c abd -n "not __fish_seen_subcommand_from $commands" -f -l version -s V -d "say the version"
 complete -c abd -n "not __fish_seen_subcommand_from $commands" -f -a check -d "check whether orders show that a history is atomic"
@@ -10,6 +10,7 @@ complete -c abd -n "not __fish_seen_subcommand_from $commands" -f -a explain -d 
 complete -c abd -n "not __fish_seen_subcommand_from $commands" -f -a justify -d "make orders from the tags or the values"
 complete -c abd -n "not __fish_seen_subcommand_from $commands" -f -a monitor -d "judge a history by its values while it is made"
 complete -c abd -n "not __fish_seen_subcommand_from $commands" -f -a simulate -d "run a script, and write the history of its run"
+complete -c abd -n "not __fish_seen_subcommand_from $commands" -f -a split -d "write a history as several, each with whole keys"
 complete -c abd -n "not __fish_seen_subcommand_from $commands" -f -a trace -d "run a script, and tell each step of its run"
 complete -c abd -n "not __fish_seen_subcommand_from $commands" -f -a run -d "run a store under a load, and write its history"
 complete -c abd -n "not __fish_seen_subcommand_from $commands" -f -a help -d "say what a command takes"
@@ -32,6 +33,8 @@ complete -c abd -n "__fish_seen_subcommand_from explain" -x -l most -d "refused 
 complete -c abd -n "__fish_seen_subcommand_from monitor" -l all -d "go on with the other keys"
 complete -c abd -n "__fish_seen_subcommand_from monitor" -x -l give-up -d "lines that a read may be pending"
 complete -c abd -n "__fish_seen_subcommand_from monitor" -l json -d "objects of JSON"
+complete -c abd -n "__fish_seen_subcommand_from split" -x -l parts -d "pieces, 1 to 1,000"
+complete -c abd -n "__fish_seen_subcommand_from split" -x -l into -a "(__fish_complete_directories)" -d "the folder of the pieces"
 complete -c abd -n "__fish_seen_subcommand_from trace" -x -l most -d "lines that are told, or steps that are drawn"
 complete -c abd -n "__fish_seen_subcommand_from trace" -l draw -d "write a page with the messages of the run"
 complete -c abd -n "__fish_seen_subcommand_from run" -x -l replicas -d "replicas, 1 to 15"

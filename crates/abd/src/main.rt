@@ -5,12 +5,17 @@ mod faults;
 mod names;
 mod opened;
 mod progress;
+mod seconds;
+mod split_files;
+mod split_history;
+mod split_progress;
 mod watching;
 
 use crate::faults::{explain_history, explain_orders};
 use crate::names::FileName;
 use crate::opened::OpenedFile;
 use crate::progress::{Progress, SharedProgress};
+use crate::split_history::split_from;
 use crate::watching::Watching;
 use cli::{
     Counting, Failure, Source, Status, check_command, justify_command, simulate_command,
@@ -18,7 +23,7 @@ use cli::{
 };
 use command_line::{
     By, CheckAsked, Command, DecideAsked, DrawAsked, JustifyAsked, KeysAsked, MonitorAsked,
-    RunAsked, command,
+    RunAsked, SplitAsked, command,
 };
 use decide_command::Deciding;
 use draw_command::Drawn;
@@ -50,6 +55,9 @@ type Out = Counting<Stdout>;
 /// Standard error, whose failures are counted.
 type Errors = Counting<Stderr>;
 
+/// What messages call standard input.
+const STANDARD_INPUT: &str = "standard input";
+
 /// Says the failure on standard error. Its status.
 fn fail(rt: &HostRuntime, failure: Failure<'_>) -> Status {
     failure.report(&mut Counting::new(rt.stderr()))
@@ -74,22 +82,31 @@ fn rereadable<'a>(rt: &HostRuntime, file: Opened<'a>) -> Rereadable<'a> {
     Source::new(file.name, Counting::new(opened))
 }
 
-/// Opens the file, and runs the command on it.
-fn on_file<F>(rt: &HostRuntime, name: &str, run: F) -> Status
+/// Opens the file, and hands it on.
+fn on_opened<F>(rt: &HostRuntime, name: &str, run: F) -> Status
 where
-    F: FnOnce(Opened<'_>, &mut Out, &mut Errors) -> Status,
+    F: FnOnce(Opened<'_>) -> Status,
     requires { F.IsAlwaysCallable run }
 {
     let Ok(name) = FileName::new(rt, name) else {
         return fail(rt, Failure::Memory);
     };
     match open(rt, &name) {
-        Ok(file) => {
-            let (mut out, mut errors) = outputs(rt);
-            run(file, &mut out, &mut errors)
-        }
+        Ok(file) => run(file),
         Err(status) => status,
     }
+}
+
+/// Opens the file, and runs the command on it.
+fn on_file<F>(rt: &HostRuntime, name: &str, run: F) -> Status
+where
+    F: FnOnce(Opened<'_>, &mut Out, &mut Errors) -> Status,
+    requires { F.IsAlwaysCallable run }
+{
+    on_opened(rt, name, |file| {
+        let (mut out, mut errors) = outputs(rt);
+        run(file, &mut out, &mut errors)
+    })
 }
 
 /// Opens both files; the second only if the first could be opened.
@@ -298,28 +315,24 @@ fn monitor_from<R: Read + Drop>(
     )
 }
 
-/// Judges the history in the file while it grows.
-fn monitor_file(
-    rt: &HostRuntime,
-    threads: &(impl Threads + Sync),
-    history: &str,
-    asked: Monitoring,
-) -> Status {
-    let Ok(name) = FileName::new(rt, history) else {
-        return fail(rt, Failure::Memory);
-    };
-    match open(rt, &name) {
-        Ok(file) => monitor_from(rt, threads, name.told(), file.reader.into_inner(), asked),
-        Err(status) => status,
-    }
-}
-
 /// Judges a history while it comes, from the file or from standard input.
 fn monitor(rt: &HostRuntime, threads: &(impl Threads + Sync), asked: &MonitorAsked<'_>) -> Status {
     let monitoring = Monitoring::of(asked);
     match asked.history {
-        Some(history) => monitor_file(rt, threads, history, monitoring),
-        None => monitor_from(rt, threads, "standard input", rt.stdin(), monitoring),
+        Some(history) => on_opened(rt, history, |file| {
+            monitor_from(rt, threads, file.name, file.reader.into_inner(), monitoring)
+        }),
+        None => monitor_from(rt, threads, STANDARD_INPUT, rt.stdin(), monitoring),
+    }
+}
+
+/// Writes a history, from the file or from standard input, as several.
+fn split(rt: &HostRuntime, threads: &(impl Threads + Sync), asked: &SplitAsked<'_>) -> Status {
+    match asked.history {
+        Some(history) => on_opened(rt, history, |file| {
+            split_from(rt, threads, file.name, file.reader.into_inner(), asked)
+        }),
+        None => split_from(rt, threads, STANDARD_INPUT, rt.stdin(), asked),
     }
 }
 
@@ -351,21 +364,20 @@ fn words_in(rt: &HostRuntime, file: &mut File) -> Result<Vec<u8>, Failure<'stati
 fn trace_page_in(
     rt: &HostRuntime,
     threads: &(impl Threads + Sync),
-    name: &FileName<'_>,
-    file: File,
+    file: Opened<'_>,
     most: u32,
 ) -> Status {
-    let mut file = file;
+    let (name, mut file) = (file.name, file.reader.into_inner());
     let words = match words_in(rt, &mut file) {
         Ok(words) => words,
         Err(failure) => return fail(rt, failure),
     };
     let reader = Counting::new(words.as_slice().chain(file));
-    let mut script = Source::new(name.told(), reader);
+    let mut script = Source::new(name, reader);
     let (mut out, mut errors) = outputs(rt);
     let alloc = rt.alloc();
     let drawn = Drawn {
-        file: name.told(),
+        file: name,
         ..Drawn::by_default()
     };
     let words = words.as_slice();
@@ -388,13 +400,7 @@ fn trace_page(
     script: &str,
     most: u32,
 ) -> Status {
-    let Ok(name) = FileName::new(rt, script) else {
-        return fail(rt, Failure::Memory);
-    };
-    match open(rt, &name) {
-        Ok(file) => trace_page_in(rt, threads, &name, file.reader.into_inner(), most),
-        Err(status) => status,
-    }
+    on_opened(rt, script, |file| trace_page_in(rt, threads, file, most))
 }
 
 /// Runs a store under a load that is watched.
@@ -445,6 +451,7 @@ where
         Command::Justify(asked) => justify(rt, threads, asked),
         Command::Monitor(asked) => monitor(rt, threads, asked),
         Command::Simulate { script } => simulate(rt, threads, script),
+        Command::Split(asked) => split(rt, threads, asked),
         Command::Trace { script, most } => trace(rt, threads, script, *most),
         Command::TracePage { script, most } => trace_page(rt, threads, script, *most),
         Command::Run(asked) => run(rt, threads, *asked),

@@ -4,8 +4,8 @@ use Rattle.clap.specs.Words.{Row, Text, first_of}
 use Rattle.std.specs.Prelude.{Some}
 use Rattle.command_line.specs.Reading.{IsNone}
 use Rattle.command_line.specs.RunWords.{AsksRun}
-use Rattle.command_line.specs.Words.{AsksCheck, AsksDecision, AsksDrawing, AsksKeys, AsksMonitor, AsksOrders, AsksTrace, AsksTracePage, MakesAs}
-use Rattle.command_line.specs.declared.asked.Command.TheVariants.{Check, Decide, Draw, Explain, Justify, Monitor, Run, Simulate, Trace, TracePage}
+use Rattle.command_line.specs.Words.{AsksCheck, AsksDecision, AsksDrawing, AsksKeys, AsksMonitor, AsksOrders, AsksSplit, AsksTrace, AsksTracePage, MakesAs}
+use Rattle.command_line.specs.declared.asked.Command.TheVariants.{Check, Decide, Draw, Explain, Justify, Monitor, Run, Simulate, Split, Trace, TracePage}
 
 -- of the command of that name, if there is one, nothing is asked for
 pub record AsksNone (name : Text) (rows : List Row) : Type 0 where
@@ -16,6 +16,7 @@ pub record AsksNone (name : Text) (rows : List Row) : Type 0 where
   pub justify : name ≡ codes "justify" → IsNone (AsksOrders rows)
   pub monitor : name ≡ codes "monitor" → IsNone (AsksMonitor rows)
   pub simulate : name ≡ codes "simulate" → (script : Text) → first_of (codes "SCRIPT") rows ≡ Some script → ⊥
+  pub split : name ≡ codes "split" → IsNone (AsksSplit rows)
   pub trace : name ≡ codes "trace" → (script : Text) → IsNone (AsksTrace rows script)
   pub page : name ≡ codes "trace" → (script : Text) → IsNone (AsksTracePage rows script)
   pub run : name ≡ codes "run" → IsNone (AsksRun rows)
@@ -29,6 +30,7 @@ none_made name rows none (Explain asked) makes = none.explain (sym makes.0) aske
 none_made name rows none (Justify asked) makes = none.justify (sym makes.0) asked makes.1
 none_made name rows none (Monitor asked) makes = none.monitor (sym makes.0) asked makes.1
 none_made name rows none (Simulate script) makes = none.simulate (sym makes.0) script.now makes.1
+none_made name rows none (Split asked) makes = none.split (sym makes.0) asked makes.1
 none_made name rows none (Trace script most) makes = none.trace (sym makes.0) script.now most makes.1
 none_made name rows none (TracePage script most) makes = none.page (sym makes.0) script.now most makes.1
 none_made name rows none (Run asked) makes = none.run (sym makes.0) asked makes.1

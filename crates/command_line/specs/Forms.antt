@@ -10,6 +10,7 @@ use Rattle.recorder.specs.Halls.{hall_limit}
 use Rattle.tag.specs.Limits.{replica_limit}
 use Rattle.command_line.specs.CommandWords.{command_app, word}
 use Rattle.command_line.specs.declared.word.Takes.TheVariants.{Argument, FreeArgument, Nothing}
+use Rattle.command_line.specs.declared.word.Takes.TheVariants.{NeededNumber, NeededText}
 use Rattle.command_line.specs.declared.word.Takes.TheVariants.{Number, Text, Texts}
 
 -- ---- numbers that are asked for
@@ -37,6 +38,10 @@ any_number = between 0 4294967295
 -- for how many rows a read may be pending
 abbrev pub give_up_range : NumberRange
 give_up_range = between 1 4294967295
+
+-- how many pieces a history is split into
+abbrev pub parts_range : NumberRange
+parts_range = between 1 1000
 
 -- how many replicas a store has
 abbrev pub replicas_range : NumberRange
@@ -133,6 +138,12 @@ monitor_app = command_app (codes "monitor")
 abbrev pub simulate_app : App
 simulate_app = command_app (codes "simulate") (word (codes "SCRIPT") None Argument ∷ [])
 
+-- abd split [FILE] --parts N --into DIR
+abbrev pub split_app : App
+split_app = command_app (codes "split")
+    (word (codes "FILE") None FreeArgument ∷ word (codes "parts") None (NeededNumber parts_range)
+    ∷ word (codes "into") None NeededText ∷ [])
+
 -- abd trace SCRIPT [--most N] [--draw]
 abbrev pub trace_app : App
 trace_app = command_app (codes "trace")
@@ -167,6 +178,6 @@ bare_app =
 -- abd with its commands
 abbrev pub abd_app : App
 abd_app = with_subcommand (with_subcommand (with_subcommand (with_subcommand (with_subcommand
-    (with_subcommand (with_subcommand (with_subcommand (with_subcommand bare_app check_app.top)
-    decide_app.top) draw_app.top) explain_app.top) justify_app.top) monitor_app.top)
-    simulate_app.top) trace_app.top) run_app.top
+    (with_subcommand (with_subcommand (with_subcommand (with_subcommand (with_subcommand bare_app
+    check_app.top) decide_app.top) draw_app.top) explain_app.top) justify_app.top) monitor_app.top)
+    simulate_app.top) split_app.top) trace_app.top) run_app.top

@@ -8,7 +8,7 @@ use Rattle.clap.specs.declared.error.kind.ErrorKind.TheVariants.{DisplayHelp, Di
 use Rattle.clap.specs.declared.error.kind.ErrorKind.TheVariants.{OutOfMemory}
 use Rattle.load.specs.declared.ranges.NumberRange.{NumberRange}
 use Rattle.command_line.specs.Forms.{abd_app, any_number, default_most, most_shown, shown_calls}
-use Rattle.command_line.specs.Forms.{give_up_range, shown_keys, workers_range}
+use Rattle.command_line.specs.Forms.{give_up_range, parts_range, shown_keys, workers_range}
 use Rattle.command_line.specs.Reading.{AsksNumber, GivesFlag, Names, texts_given}
 use Rattle.command_line.specs.RunWords.{AsksRun}
 use Rattle.command_line.specs.declared.asked.By.{By}
@@ -17,12 +17,13 @@ use Rattle.command_line.specs.declared.asked.CheckAsked.{CheckAsked}
 use Rattle.command_line.specs.declared.asked.Command.{Command}
 use Rattle.command_line.specs.declared.asked.Command.TheVariants.{Check, Decide, Draw, Explain}
 use Rattle.command_line.specs.declared.asked.Command.TheVariants.{Justify, Monitor, Run, Simulate}
-use Rattle.command_line.specs.declared.asked.Command.TheVariants.{Trace, TracePage}
+use Rattle.command_line.specs.declared.asked.Command.TheVariants.{Split, Trace, TracePage}
 use Rattle.command_line.specs.declared.asked.DecideAsked.{DecideAsked}
 use Rattle.command_line.specs.declared.asked.DrawAsked.{DrawAsked}
 use Rattle.command_line.specs.declared.asked.JustifyAsked.{JustifyAsked}
 use Rattle.command_line.specs.declared.asked.KeysAsked.{KeysAsked}
 use Rattle.command_line.specs.declared.asked.MonitorAsked.{MonitorAsked}
+use Rattle.command_line.specs.declared.asked.SplitAsked.{SplitAsked}
 use Rattle.command_line.specs.declared.asked.Usage.{Usage}
 use Rattle.command_line.specs.declared.asked.Usage.TheVariants as usage
 use Rattle.command_line.specs.declared.lines.Lines.{Lines}
@@ -110,6 +111,12 @@ pub record AsksMonitor (rows : List Row) (asked : MonitorAsked) : Type 0 where
   pub give_up : AsksNumber rows (codes "give-up") give_up_range asked.give_up
   pub form : AsksForm rows asked.form
 
+-- the words after `split` may name the file, and say how many pieces there are, and in which folder
+pub record AsksSplit (rows : List Row) (asked : SplitAsked) : Type 0 where
+  pub history : first_of (codes "FILE") rows ≡ option_map (λ s. s.now) asked.history
+  pub parts : AsksNumber rows (codes "parts") parts_range asked.parts
+  pub into : Names rows (codes "into") asked.into
+
 -- the words after `trace` name the script, and ask for so many lines of it
 pub record AsksTrace (rows : List Row) (script : Text) (most : ℕ) : Type 0 where
   pub told : GivesFlag rows (codes "draw") → ⊥
@@ -134,6 +141,7 @@ Makes rows (Explain asked) = AsksKeys rows asked
 Makes rows (Justify asked) = AsksOrders rows asked
 Makes rows (Monitor asked) = AsksMonitor rows asked
 Makes rows (Simulate script) = first_of (codes "SCRIPT") rows ≡ Some script.now
+Makes rows (Split asked) = AsksSplit rows asked
 Makes rows (Trace script most) = AsksTrace rows script.now most
 Makes rows (TracePage script most) = AsksTracePage rows script.now most
 Makes rows (Run asked) = AsksRun rows asked
@@ -147,6 +155,7 @@ name_of (Explain asked) = codes "explain"
 name_of (Justify asked) = codes "justify"
 name_of (Monitor asked) = codes "monitor"
 name_of (Simulate script) = codes "simulate"
+name_of (Split asked) = codes "split"
 name_of (Trace script most) = codes "trace"
 name_of (TracePage script most) = codes "trace"
 name_of (Run asked) = codes "run"

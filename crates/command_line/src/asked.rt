@@ -84,6 +84,17 @@ pub struct MonitorAsked<'a> {
     pub form: Lines,
 }
 
+/// What the words of `abd split` ask for.
+#[derive(Clone, Copy, Debug, PartialEq, Eq)]
+pub struct SplitAsked<'a> {
+    /// The file whose rows are shared out; standard input if none is named.
+    pub history: Option<&'a str>,
+    /// How many pieces there are, 1 to 1,000.
+    pub parts: u16,
+    /// The folder of the pieces.
+    pub into: &'a str,
+}
+
 /// Which histories `abd run` writes.
 #[derive(Clone, Copy, Debug, PartialEq, Eq)]
 pub enum Shown {
@@ -119,6 +130,8 @@ pub enum Command<'a> {
     Monitor(MonitorAsked<'a>),
     /// To run a script and write the history of its run.
     Simulate { script: &'a str },
+    /// To write a history as several, each with whole keys.
+    Split(SplitAsked<'a>),
     /// To run a script and tell the steps of its run, in so many lines at most.
     Trace { script: &'a str, most: u32 },
     /// To run a script and write a page of its run, with so many steps drawn, 10,000 at most.

@@ -1,16 +1,19 @@
 //! The commands of `abd`, as clap takes them.
 ghost use Rattle.std.specs.Prelude.{◌≡◌, IfOk};
 ghost use Rattle.clap.specs.Words.{app_of};
-ghost use Rattle.command_line.specs.CommandWords.{IsForm};
+ghost use Rattle.command_line.specs.CommandWords.{IsAdded, IsForm};
 ghost use Rattle.command_line.specs.Forms.{abd_app, bare_app, check_app, decide_app, draw_app};
-ghost use Rattle.command_line.specs.Forms.{explain_app, justify_app, monitor_app, run_app, simulate_app};
+ghost use Rattle.command_line.specs.Forms.{explain_app, justify_app, monitor_app, run_app, simulate_app, split_app};
 ghost use Rattle.command_line.specs.Forms.{trace_app};
 
 use crate::defaults::{CALLS_WORD, KEYS_WORD};
 use crate::ranges::{
-    ANY_NUMBER, GIVE_UP, HALLS, REPLICAS, SHOWN_CALLS, SHOWN_HALL, SHOWN_KEYS, VOTES, WORKERS,
+    ANY_NUMBER, GIVE_UP, HALLS, PARTS, REPLICAS, SHOWN_CALLS, SHOWN_HALL, SHOWN_KEYS, VOTES,
+    WORKERS,
 };
-use crate::word::Takes::{Argument, FreeArgument, Nothing, Number, Text, Texts};
+use crate::word::Takes::{
+    Argument, FreeArgument, NeededNumber, NeededText, Nothing, Number, Text, Texts,
+};
 use crate::word::{Word, command_of};
 use crate::{help, run_help as run};
 use clap::Command;
@@ -112,6 +115,18 @@ fn simulate_words<'a>(alloc: Global) -> Result<Command<'a>, AllocError>
     command_of(alloc, "simulate", help::SIMULATE, &words)
 }
 
+/// `abd split [FILE] --parts N --into DIR`.
+fn split_words<'a>(alloc: Global) -> Result<Command<'a>, AllocError>
+    ensures { IfOk result (IsForm split_app) }
+{
+    let words = [
+        Word::new("FILE", FreeArgument, help::RECORD),
+        Word::option("parts", "N", None, NeededNumber(PARTS), help::PARTS),
+        Word::option("into", "DIR", None, NeededText, help::INTO),
+    ];
+    command_of(alloc, "split", help::SPLIT, &words)
+}
+
 /// `abd trace SCRIPT [--most N] [--draw]`.
 fn trace_words<'a>(alloc: Global) -> Result<Command<'a>, AllocError>
     ensures { IfOk result (IsForm trace_app) }
@@ -154,17 +169,28 @@ fn bare_words<'a>(alloc: Global) -> Result<Command<'a>, AllocError>
     Ok(bare.version(help::VERSION).subcommand_required(true))
 }
 
+/// These commands and one more, if it was made.
+fn added<'a>(
+    words: Command<'a>,
+    one: Result<Command<'a>, AllocError>,
+) -> Result<Command<'a>, AllocError>
+    ensures { IfOk result (IsAdded (app_of words.entry) one.entry) }
+{
+    words.subcommand(one?)
+}
+
 /// `abd` with its commands.
 pub(crate) fn abd_words<'a>(alloc: Global) -> Result<Command<'a>, AllocError>
     ensures { IfOk result (λ words. app_of words ≡ abd_app) }
 {
-    let words = bare_words(alloc)?.subcommand(check_words(alloc)?)?;
-    let words = words.subcommand(decide_words(alloc)?)?;
-    let words = words.subcommand(draw_words(alloc)?)?;
-    let words = words.subcommand(explain_words(alloc)?)?;
-    let words = words.subcommand(justify_words(alloc)?)?;
-    let words = words.subcommand(monitor_words(alloc)?)?;
-    let words = words.subcommand(simulate_words(alloc)?)?;
-    let words = words.subcommand(trace_words(alloc)?)?;
-    words.subcommand(run_words(alloc)?)
+    let words = added(bare_words(alloc)?, check_words(alloc))?;
+    let words = added(words, decide_words(alloc))?;
+    let words = added(words, draw_words(alloc))?;
+    let words = added(words, explain_words(alloc))?;
+    let words = added(words, justify_words(alloc))?;
+    let words = added(words, monitor_words(alloc))?;
+    let words = added(words, simulate_words(alloc))?;
+    let words = added(words, split_words(alloc))?;
+    let words = added(words, trace_words(alloc))?;
+    added(words, run_words(alloc))
 }

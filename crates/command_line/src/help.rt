@@ -10,7 +10,7 @@ pub struct CommandHelp {
 }
 
 /// The version that `abd --version` says.
-pub const VERSION: &str = "0.8.0";
+pub const VERSION: &str = "0.9.0";
 
 /// Of `abd`.
 pub const ABD: CommandHelp = CommandHelp {
@@ -181,6 +181,28 @@ how many calls on how many keys were judged. On a terminal a line says once a se
 atomic, 1 a key isn't, 2 usage, 3 the file can't be opened or read as its format, 4 memory or a device, 5 none is \
 refused and one is undecided, or a read was answered after it was given up.\n\n\
 Examples:\n  abd monitor examples/new_then_old.history\n  python3 docs/using/toy_store.py --calls 100000 | abd monitor",
+};
+
+/// Of the option `--parts`.
+pub const PARTS: &str = "How many pieces there are, 1 to 1,000";
+
+/// Of the option `--into`.
+pub const INTO: &str =
+    "The folder of the pieces; it is made if it isn't there, and else has to be empty";
+
+/// Of `abd split`.
+pub const SPLIT: CommandHelp = CommandHelp {
+    about: "Write a history as several, each with whole keys, that are judged anywhere",
+    after: "\
+Reads a history of version 1, of any length, from FILE or standard input, and writes N histories into DIR: \
+`piece-1.history`, and so on, with as many digits as N has. Each key's calls stand in one piece, in their order, \
+numbered anew; each row has the number of its line in FILE as a member `line`. A key is linearizable in FILE exactly \
+if it is in its piece: judge the pieces by `abd monitor`, or by `abd decide` where a piece has at most 1,000,000 \
+calls. Memory goes with the keys, the pending calls and N. Until all is written the pieces have names that end in \
+`.part`; if FILE has a fault they are removed. One large key can't be split. On a terminal a line says once a second \
+how far it is, and at the end how many calls and keys there were.\nExit status: 0 all pieces are written, 2 usage, 3 the \
+file can't be opened or read as its format, or DIR isn't empty, 4 memory or a device.\n\n\
+Examples:\n  abd split --parts 8 --into pieces run.history\n  parallel abd monitor ::: pieces/*",
 };
 
 /// Of `abd simulate`.

@@ -21,7 +21,7 @@ mod words;
 
 pub use asked::{
     By, CheckAsked, Command, DecideAsked, DrawAsked, JustifyAsked, KeysAsked, MonitorAsked,
-    RunAsked, Shown, Usage,
+    RunAsked, Shown, SplitAsked, Usage,
 };
 pub use lines::Lines;
 pub use words::command;

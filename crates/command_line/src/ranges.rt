@@ -28,6 +28,12 @@ pub(crate) const GIVE_UP: NumberRange = NumberRange {
     most: u32::MAX,
 };
 
+/// How many pieces a history is split into.
+pub(crate) const PARTS: NumberRange = NumberRange {
+    least: 1,
+    most: 1_000,
+};
+
 /// How many replicas a store has.
 pub(crate) const REPLICAS: NumberRange = NumberRange { least: 1, most: 15 };
 

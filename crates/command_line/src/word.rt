@@ -1,10 +1,12 @@
 //! The words of a command, as clap takes them.
 ghost use Rattle.std.specs.Prelude.{◌≡◌, [], None, codes, false, map, IfOk};
-ghost use Rattle.clap.specs.Words.{rule_of};
-ghost use Rattle.command_line.specs.CommandWords.{IsForm, command_app, rule_by, rule_of_word};
+ghost use Rattle.clap.specs.Words.{new_rule, rule_of};
+ghost use Rattle.command_line.specs.CommandWords.{IsForm, command_app, number_option, rule_by, rule_of_word};
 
 use crate::help::CommandHelp;
-use crate::word::Takes::{Argument, FreeArgument, Nothing, Number, Text, Texts};
+use crate::word::Takes::{
+    Argument, FreeArgument, NeededNumber, NeededText, Nothing, Number, Text, Texts,
+};
 use clap::builder::ValueParser;
 use clap::{Arg, ArgAction, Command};
 use load::ranges::NumberRange;
@@ -25,6 +27,10 @@ pub(crate) enum Takes {
     Texts,
     /// An option, after which one of these numbers stands.
     Number(NumberRange),
+    /// An option with a text, which has to be there.
+    NeededText,
+    /// An option with one of these numbers, which has to be there.
+    NeededNumber(NumberRange),
 }
 
 /// A word of a command.
@@ -40,6 +46,18 @@ pub(crate) struct Word<'a> {
     takes: Takes,
     /// What help says of it.
     help: &'a str,
+}
+
+/// The option of that name, after which one of these numbers stands, which help calls so.
+fn numbered<'a>(named: Arg<'a>, name: &'a str, value: &'a str, range: NumberRange) -> Arg<'a>
+    requires { rule_of named ≡ new_rule name.now }
+    ensures rule { rule_of result ≡ number_option range name.entry.now }
+    ensures local { result.global ≡ named.entry.global }
+{
+    named.long(name).value_name(value).value_parser(ValueParser::signed(
+        i64::from(range.least),
+        i64::from(range.most),
+    ))
 }
 
 impl<'a> Word<'a> {
@@ -88,9 +106,9 @@ impl<'a> Word<'a> {
                 .long(self.name)
                 .value_name(self.value)
                 .action(ArgAction::Append),
-            Number(range) => named.long(self.name).value_name(self.value).value_parser(
-                ValueParser::signed(i64::from(range.least), i64::from(range.most)),
-            ),
+            Number(range) => numbered(named, self.name, self.value, range),
+            NeededText => named.long(self.name).value_name(self.value).required(true),
+            NeededNumber(range) => numbered(named, self.name, self.value, range).required(true),
         }
     }
 

@@ -4,17 +4,18 @@ ghost use Rattle.clap.specs.Words.{kind_of, subcommand_rows_of};
 ghost use Rattle.command_line.specs.Reading.{Finds, FindsOrLacks, IsNone, rows_in};
 ghost use Rattle.command_line.specs.Words.{Asks, AsksAround, AsksBy, AsksCheck, AsksDecision};
 ghost use Rattle.command_line.specs.Words.{AsksDrawing, AsksDrawnBy, AsksForm, AsksKeys, AsksMonitor};
-ghost use Rattle.command_line.specs.Words.{AsksMost, AsksNothing, AsksOrders, AsksWhole, HasWords};
+ghost use Rattle.command_line.specs.Words.{AsksMost, AsksNothing, AsksOrders, AsksSplit, AsksWhole, HasWords};
 ghost use Rattle.command_line.specs.Words.{IsSaid, IsUsageOf, MakesAs, MakesNothing, MakesOf};
 
 use crate::asked::{
-    By, CheckAsked, Command, DecideAsked, DrawAsked, JustifyAsked, KeysAsked, MonitorAsked, Usage,
+    By, CheckAsked, Command, DecideAsked, DrawAsked, JustifyAsked, KeysAsked, MonitorAsked,
+    SplitAsked, Usage,
 };
 use crate::defaults;
 use crate::fault::WordsFault;
 use crate::forms::abd_words;
 use crate::lines::Lines;
-use crate::ranges::{ANY_NUMBER, GIVE_UP, SHOWN_CALLS, SHOWN_KEYS, WORKERS};
+use crate::ranges::{ANY_NUMBER, GIVE_UP, PARTS, SHOWN_CALLS, SHOWN_KEYS, WORKERS};
 use crate::reading::{has_flag, needed_in, number_in, text_in, texts_in};
 use crate::run_words::run_in;
 use clap::error::ErrorKind;
@@ -222,6 +223,19 @@ fn simulate_in<'a>(matches: &ArgMatches<'a>) -> Result<Command<'a>, WordsFault>
     Ok(Command::Simulate { script })
 }
 
+/// What the words after `split` ask for.
+fn split_in<'a>(matches: &ArgMatches<'a>) -> Result<SplitAsked<'a>, WordsFault>
+    ensures { Finds result (AsksSplit (rows_in matches.now)) }
+{
+    let parts = number_in(matches, "parts", PARTS)? as u16;
+    let into = needed_in(matches, "into")?;
+    Ok(SplitAsked {
+        history: text_in(matches, "FILE"),
+        parts,
+        into,
+    })
+}
+
 /// `trace`, of the words after its name.
 fn trace_in<'a>(matches: &ArgMatches<'a>) -> Result<Command<'a>, WordsFault>
     ensures { Finds result (MakesAs (codes "trace") (rows_in matches.now)) }
@@ -265,6 +279,8 @@ fn made_in<'a>(
         Ok(Command::Monitor(monitor_in(matches)?))
     } else if name == "simulate" {
         simulate_in(matches)
+    } else if name == "split" {
+        Ok(Command::Split(split_in(matches)?))
     } else if name == "trace" {
         trace_in(matches)
     } else if name == "run" {

@@ -5,6 +5,8 @@ pub mod Compact
 pub mod WrittenLines
 pub mod WrittenFiles
 pub mod WrittenHistories
+pub mod NumberedTexts
+mod WholeOrNothing
 pub mod WrittenOrders
 mod TakenLines
 pub mod EachElement

@@ -21,10 +21,12 @@ use Rattle.row_members.specs.Scans.{is_plain}
 use Rattle.row_members.proofs.PlainTexts.{escape_plain}
 use Rattle.row_members.proofs.Pieces.{to_end}
 use Rattle.file_format.specs.declared.file_header.FileHeader.TheVariants.{Version2}
-use Rattle.file_format.specs.RowTexts.{row_bytes}
-use Rattle.file_format.specs.Texts.{whole, header_data, file_header_data, numbers_data, row_data}
-use Rattle.file_format.specs.Texts.{hall_member, hall_text, answered_member, piece_data, calls_data}
-use Rattle.file_format.specs.Texts.{line_text, row_text_with, piece_text}
+use Rattle.file_format.specs.declared.marks.Marks.{Marks}
+use Rattle.file_format.specs.RowTexts.{after_key, after_marks, row_bytes}
+use Rattle.file_format.specs.Texts.{whole, header_data, file_header_data, numbers_data, marked_data}
+use Rattle.file_format.specs.Texts.{hall_member, hall_text, line_member, line_member_text}
+use Rattle.file_format.specs.Texts.{answered_member, piece_data, calls_data}
+use Rattle.file_format.specs.Texts.{line_text, marked_text, piece_text}
 
 abbrev end : List ℕ
 end = 10 ∷ []
@@ -41,97 +43,141 @@ member_bytes before middle rest = before ++ (middle ++ rest)
 member_end : (before middle rest : List ℕ) → member_bytes before middle rest ++ end ≡ member_bytes before middle (rest ++ end)
 member_end before middle rest = append_assoc before (middle ++ rest) end ∙ ap (λ (s : List ℕ). before ++ s) (append_assoc middle rest end)
 
--- the member `hall`, where there is one, before others
+-- what a read's response has after its call
+abbrev pub answer_members : Option (List ℕ) → Members
+answer_members answer = member (codes "row") (string (codes "respond")) (answered_member (Value answer) no_members)
+
+-- the members `hall` and `line`, where there are such, before others
 hall_there : (hall : Option ℕ) (others : Members) → members_text true (hall_member hall others) ≡ hall_text hall ++ members_text true others
 unfolding escape_byte
 hall_there None others = refl
 hall_there (Some hall) others = refl
 
+line_there : (line : Option ℕ) (others : Members)
+    → members_text true (line_member line others) ≡ line_member_text line ++ members_text true others
+unfolding escape_byte
+line_there None others = refl
+line_there (Some line) others = refl
+
+marks_there : (marks : Marks) (others : Members) → members_text true (hall_member marks.hall (line_member marks.line others))
+    ≡ after_marks marks (members_text true others)
+marks_there marks others = hall_there marks.hall (line_member marks.line others)
+    ∙ ap (λ (s : List ℕ). hall_text marks.hall ++ s) (line_there marks.line others)
+
+-- a key between those members, before others
+key_there : (marks : Marks) (key : List ℕ) (others : Members)
+    → members_text true (hall_member marks.hall (member (codes "key") (string key) (line_member marks.line others)))
+    ≡ after_key marks key (members_text true others)
+unfolding escape_byte
+key_there marks key others = hall_there marks.hall (member (codes "key") (string key) (line_member marks.line others))
+    ∙ ap (λ (s : List ℕ). hall_text marks.hall ++ (codes ",\"key\":" ++ (quoted key ++ s))) (line_there marks.line others)
+
+-- ---- a row's line without its end
+
 abbrev writes_value : List ℕ → List ℕ
 writes_value value = member_bytes (codes ",\"row\":\"invoke\",\"value\":") (quoted value) (codes "}")
-
-abbrev on_key : List ℕ → List ℕ → List ℕ
-on_key key rest = member_bytes (codes ",\"key\":") (quoted key) rest
 
 abbrev begins_invoke : ℕ → ℕ → List ℕ → List ℕ
 begins_invoke call client rest =
     member_bytes (codes "{\"call\":") (decimal call) (member_bytes (codes ",\"client\":") (decimal client) rest)
+
+abbrev behind_call : ℕ → List ℕ → List ℕ
+behind_call call rest = codes "{\"call\":" ++ (decimal call ++ rest)
+
+pub compact_row : (marks : Marks) (row : Row) → compact_text (marked_data marks row) ≡ row_bytes marks row
+unfolding marked_data escape_byte
+compact_row marks (Invoke op client key Read) =
+    ap (λ (s : List ℕ). begins_invoke op.0 client (codes ",\"do\":\"read\"" ++ s))
+    (key_there marks key (member (codes "row") (string (codes "invoke")) no_members))
+compact_row marks (Invoke op client key (Write value)) =
+    ap (λ (s : List ℕ). begins_invoke op.0 client (codes ",\"do\":\"write\"" ++ s))
+    (key_there marks key (member (codes "row") (string (codes "invoke")) (member (codes "value") (string value) no_members)))
+compact_row marks (Note op tag) =
+    ap (λ (s : List ℕ). behind_call op.0 s)
+    (marks_there marks (member (codes "number") (whole tag.number)
+    (member (codes "row") (string (codes "note")) (member (codes "writer") (whole tag.writer) no_members))))
+compact_row marks (Respond op Written) =
+    ap (λ (s : List ℕ). behind_call op.0 s) (marks_there marks (member (codes "row") (string (codes "respond")) no_members))
+compact_row marks (Respond op (Value None)) = ap (λ (s : List ℕ). behind_call op.0 s) (marks_there marks (answer_members None))
+compact_row marks (Respond op (Value (Some value))) =
+    ap (λ (s : List ℕ). behind_call op.0 s) (marks_there marks (answer_members (Some value)))
+
+-- ---- a row's line with its end
 
 invoke_end : (call client : ℕ) (rest : List ℕ) → begins_invoke call client rest ++ end ≡ begins_invoke call client (rest ++ end)
 invoke_end call client rest =
     member_end (codes "{\"call\":") (decimal call) (member_bytes (codes ",\"client\":") (decimal client) rest)
     ∙ ap (λ (s : List ℕ). member_bytes (codes "{\"call\":") (decimal call) s) (member_end (codes ",\"client\":") (decimal client) rest)
 
-pub read_bytes : (hall : Option ℕ) (op : OpId) (client : ℕ) (key : List ℕ)
-    → row_text_with hall (Invoke op client key Read) ≡ codes "{\"call\":"
+-- what an invocation asks, its key between the members that it is marked by
+asked_end : (action : List ℕ) (marks : Marks) (key rest : List ℕ)
+    → (action ++ after_key marks key rest) ++ end ≡ action ++ after_key marks key (rest ++ end)
+asked_end action marks key rest =
+    let last = line_member_text marks.line ++ rest in
+    member_end action (hall_text marks.hall) (member_bytes (codes ",\"key\":") (quoted key) last)
+    ∙ ap (λ (s : List ℕ). member_bytes action (hall_text marks.hall) s) (member_end (codes ",\"key\":") (quoted key) last
+    ∙ ap (λ (s : List ℕ). member_bytes (codes ",\"key\":") (quoted key) s) (append_assoc (line_member_text marks.line) rest end))
+
+invoked_end : (call client : ℕ) (action : List ℕ) (marks : Marks) (key rest : List ℕ)
+    → begins_invoke call client (action ++ after_key marks key rest) ++ end
+    ≡ begins_invoke call client (action ++ after_key marks key (rest ++ end))
+invoked_end call client action marks key rest =
+    invoke_end call client (action ++ after_key marks key rest)
+    ∙ ap (λ (s : List ℕ). begins_invoke call client s) (asked_end action marks key rest)
+
+pub read_bytes : (marks : Marks) (op : OpId) (client : ℕ) (key : List ℕ)
+    → marked_text marks (Invoke op client key Read) ≡ codes "{\"call\":"
     ++ (decimal op.0 ++ (codes ",\"client\":"
     ++ (decimal client ++ (codes ",\"do\":\"read\""
-    ++ (hall_text hall ++ (codes ",\"key\":" ++ (quoted key ++ codes ",\"row\":\"invoke\"}\n")))))))
-unfolding line_text row_data escape_byte
-read_bytes hall op client key =
-    let action = codes ",\"do\":\"read\"" in
-    let others = on_key key (codes ",\"row\":\"invoke\"}") in
-    ap (λ (s : List ℕ). begins_invoke op.0 client (action ++ s) ++ end)
-    (hall_there hall (member (codes "key") (string key) (member (codes "row") (string (codes "invoke")) no_members)))
-    ∙ invoke_end op.0 client (member_bytes action (hall_text hall) others)
-    ∙ ap (λ (s : List ℕ). begins_invoke op.0 client s) (member_end action (hall_text hall) others
-    ∙ ap (λ (s : List ℕ). member_bytes action (hall_text hall) s)
-    (member_end (codes ",\"key\":") (quoted key) (codes ",\"row\":\"invoke\"}")))
+    ++ (hall_text marks.hall ++ (codes ",\"key\":"
+    ++ (quoted key ++ (line_member_text marks.line ++ codes ",\"row\":\"invoke\"}\n"))))))))
+unfolding line_text
+read_bytes marks op client key =
+    ap (λ (s : List ℕ). s ++ end) (compact_row marks (Invoke op client key Read))
+    ∙ invoked_end op.0 client (codes ",\"do\":\"read\"") marks key (codes ",\"row\":\"invoke\"}")
 
-pub write_bytes : (hall : Option ℕ) (op : OpId) (client : ℕ) (key value : List ℕ)
-    → row_text_with hall (Invoke op client key (Write value)) ≡ codes "{\"call\":"
+pub write_bytes : (marks : Marks) (op : OpId) (client : ℕ) (key value : List ℕ)
+    → marked_text marks (Invoke op client key (Write value)) ≡ codes "{\"call\":"
     ++ (decimal op.0 ++ (codes ",\"client\":"
     ++ (decimal client ++ (codes ",\"do\":\"write\""
-    ++ (hall_text hall ++ (codes ",\"key\":"
-    ++ (quoted key ++ (codes ",\"row\":\"invoke\",\"value\":" ++ (quoted value ++ codes "}\n")))))))))
-unfolding line_text row_data escape_byte
-write_bytes hall op client key value =
-    let action = codes ",\"do\":\"write\"" in
-    let others = on_key key (writes_value value) in
-    ap (λ (s : List ℕ). begins_invoke op.0 client (action ++ s) ++ end)
-    (hall_there hall (member (codes "key") (string key)
-    (member (codes "row") (string (codes "invoke")) (member (codes "value") (string value) no_members))))
-    ∙ invoke_end op.0 client (member_bytes action (hall_text hall) others)
-    ∙ ap (λ (s : List ℕ). begins_invoke op.0 client s) (member_end action (hall_text hall) others
-    ∙ ap (λ (s : List ℕ). member_bytes action (hall_text hall) s) (member_end (codes ",\"key\":") (quoted key) (writes_value value)
-    ∙ ap (λ (s : List ℕ). on_key key s) (member_end (codes ",\"row\":\"invoke\",\"value\":") (quoted value) (codes "}"))))
+    ++ (hall_text marks.hall ++ (codes ",\"key\":"
+    ++ (quoted key ++ (line_member_text marks.line
+    ++ (codes ",\"row\":\"invoke\",\"value\":" ++ (quoted value ++ codes "}\n"))))))))))
+unfolding line_text
+write_bytes marks op client key value =
+    ap (λ (s : List ℕ). s ++ end) (compact_row marks (Invoke op client key (Write value)))
+    ∙ invoked_end op.0 client (codes ",\"do\":\"write\"") marks key (writes_value value)
+    ∙ ap (λ (s : List ℕ). begins_invoke op.0 client (codes ",\"do\":\"write\"" ++ after_key marks key s))
+    (member_end (codes ",\"row\":\"invoke\",\"value\":") (quoted value) (codes "}"))
 
--- a row that isn't an invocation: its call, its hall where there is one, and the rest
-abbrev begins_later : ℕ → Option ℕ → List ℕ → List ℕ
-begins_later call hall rest = member_bytes (codes "{\"call\":") (decimal call) (hall_text hall ++ rest)
+-- a row that isn't an invocation: its call, the members that it is marked by, and the rest
+later_end : (call : ℕ) (marks : Marks) (rest : List ℕ) → behind_call call (after_marks marks rest) ++ end
+    ≡ behind_call call (after_marks marks (rest ++ end))
+later_end call marks rest =
+    let last = line_member_text marks.line ++ rest in
+    member_end (codes "{\"call\":") (decimal call) (hall_text marks.hall ++ last)
+    ∙ ap (λ (s : List ℕ). behind_call call s) (append_assoc (hall_text marks.hall) last end
+    ∙ ap (λ (s : List ℕ). hall_text marks.hall ++ s) (append_assoc (line_member_text marks.line) rest end))
 
-later_end : (call : ℕ) (hall : Option ℕ) (others : Members) (rest : List ℕ) → members_text true others ≡ rest
-    → (codes "{\"call\":" ++ (decimal call ++ members_text true (hall_member hall others))) ++ end ≡ begins_later call hall (rest ++ end)
-later_end call hall others rest same =
-    ap (λ (s : List ℕ). (codes "{\"call\":" ++ (decimal call ++ s)) ++ end) (hall_there hall others
-    ∙ ap (λ (s : List ℕ). hall_text hall ++ s) same)
-    ∙ member_end (codes "{\"call\":") (decimal call) (hall_text hall ++ rest)
-    ∙ ap (λ (s : List ℕ). member_bytes (codes "{\"call\":") (decimal call) s) (append_assoc (hall_text hall) rest end)
-
-pub note_bytes : (hall : Option ℕ) (op : OpId) (tag : Tag)
-    → row_text_with hall (Note op tag) ≡ codes "{\"call\":"
-    ++ (decimal op.0 ++ (hall_text hall
+pub note_bytes : (marks : Marks) (op : OpId) (tag : Tag)
+    → marked_text marks (Note op tag) ≡ codes "{\"call\":"
+    ++ (decimal op.0 ++ (hall_text marks.hall ++ (line_member_text marks.line
     ++ (codes ",\"number\":" ++ (decimal tag.number
-    ++ (codes ",\"row\":\"note\",\"writer\":" ++ (decimal tag.writer ++ codes "}\n"))))))
-unfolding line_text row_data escape_byte
-note_bytes hall op tag =
+    ++ (codes ",\"row\":\"note\",\"writer\":" ++ (decimal tag.writer ++ codes "}\n")))))))
+unfolding line_text
+note_bytes marks op tag =
     let writer = member_bytes (codes ",\"row\":\"note\",\"writer\":") (decimal tag.writer) (codes "}") in
-    let others = member (codes "number") (whole tag.number)
-    (member (codes "row") (string (codes "note")) (member (codes "writer") (whole tag.writer) no_members)) in
-    later_end op.0 hall others (member_bytes (codes ",\"number\":") (decimal tag.number) writer) refl
-    ∙ ap (λ (s : List ℕ). begins_later op.0 hall s) (member_end (codes ",\"number\":") (decimal tag.number) writer
+    ap (λ (s : List ℕ). s ++ end) (compact_row marks (Note op tag))
+    ∙ later_end op.0 marks (member_bytes (codes ",\"number\":") (decimal tag.number) writer)
+    ∙ ap (λ (s : List ℕ). behind_call op.0 (after_marks marks s)) (member_end (codes ",\"number\":") (decimal tag.number) writer
     ∙ ap (λ (s : List ℕ). member_bytes (codes ",\"number\":") (decimal tag.number) s)
     (member_end (codes ",\"row\":\"note\",\"writer\":") (decimal tag.writer) (codes "}")))
 
-pub written_bytes : (hall : Option ℕ) (op : OpId) → row_text_with hall (Respond op Written) ≡ codes "{\"call\":"
-    ++ (decimal op.0 ++ (hall_text hall ++ codes ",\"row\":\"respond\"}\n"))
-unfolding line_text row_data escape_byte
-written_bytes hall op = later_end op.0 hall (member (codes "row") (string (codes "respond")) no_members) (codes ",\"row\":\"respond\"}")
-    refl
-
--- what a read's response has after its call
-abbrev pub answer_members : Option (List ℕ) → Members
-answer_members answer = member (codes "row") (string (codes "respond")) (answered_member (Value answer) no_members)
+pub written_bytes : (marks : Marks) (op : OpId) → marked_text marks (Respond op Written) ≡ codes "{\"call\":"
+    ++ (decimal op.0 ++ (hall_text marks.hall ++ (line_member_text marks.line ++ codes ",\"row\":\"respond\"}\n")))
+unfolding line_text
+written_bytes marks op = ap (λ (s : List ℕ). s ++ end) (compact_row marks (Respond op Written))
+    ∙ later_end op.0 marks (codes ",\"row\":\"respond\"}")
 
 pub absent_bytes : with_end (members_text true (answer_members None)) ≡ codes ",\"row\":\"respond\",\"value\":null}\n"
 unfolding escape_byte
@@ -142,10 +188,13 @@ pub answered_bytes : (value : List ℕ) → with_end (members_text true (answer_
 unfolding escape_byte
 answered_bytes value = member_end (codes ",\"row\":\"respond\",\"value\":") (quoted value) (codes "}")
 
-pub respond_bytes : (hall : Option ℕ) (op : OpId) (answer : Option (List ℕ)) → row_text_with hall (Respond op (Value answer))
-    ≡ codes "{\"call\":" ++ (decimal op.0 ++ (hall_text hall ++ with_end (members_text true (answer_members answer))))
-unfolding line_text row_data escape_byte
-respond_bytes hall op answer = later_end op.0 hall (answer_members answer) (members_text true (answer_members answer)) refl
+pub respond_bytes : (marks : Marks) (op : OpId) (answer : Option (List ℕ)) → marked_text marks (Respond op (Value answer))
+    ≡ codes "{\"call\":"
+    ++ (decimal op.0 ++ (hall_text marks.hall ++ (line_member_text marks.line ++ with_end (members_text true (answer_members answer)))))
+unfolding line_text marked_data escape_byte
+respond_bytes marks op answer =
+    ap (λ (s : List ℕ). behind_call op.0 s ++ end) (marks_there marks (answer_members answer))
+    ∙ later_end op.0 marks (members_text true (answer_members answer))
 
 pub piece_bytes : (key : List ℕ) (order : List OpId) → piece_text (record { key = key; order = order }) ≡ codes "{\"key\":"
     ++ (quoted key ++ (codes ",\"order\":[" ++ (items_text false (calls_data order) ++ codes "}\n")))
@@ -177,29 +226,6 @@ quorums_bytes halls quorums =
     ∙ ap (λ (s : List ℕ). member_bytes (codes ",\"halls\":") (decimal halls) s) (member_end (codes ",\"put\":") (decimal quorums.put) votes
     ∙ ap (λ (s : List ℕ). member_bytes (codes ",\"put\":") (decimal quorums.put) s)
     (member_end (codes ",\"version\":2,\"votes\":[") (items_text false (numbers_data quorums.votes)) (codes "}")))))
-
--- ---- a row's line without its end
-
-abbrev behind_call : ℕ → List ℕ → List ℕ
-behind_call call rest = codes "{\"call\":" ++ (decimal call ++ rest)
-
-pub compact_row : (hall : Option ℕ) (row : Row) → compact_text (row_data hall row) ≡ row_bytes hall row
-unfolding row_data escape_byte
-compact_row hall (Invoke op client key Read) =
-    ap (λ (s : List ℕ). begins_invoke op.0 client (codes ",\"do\":\"read\"" ++ s))
-    (hall_there hall (member (codes "key") (string key) (member (codes "row") (string (codes "invoke")) no_members)))
-compact_row hall (Invoke op client key (Write value)) =
-    ap (λ (s : List ℕ). begins_invoke op.0 client (codes ",\"do\":\"write\"" ++ s))
-    (hall_there hall (member (codes "key") (string key)
-    (member (codes "row") (string (codes "invoke")) (member (codes "value") (string value) no_members))))
-compact_row hall (Note op tag) =
-    ap (λ (s : List ℕ). behind_call op.0 s)
-    (hall_there hall (member (codes "number") (whole tag.number)
-    (member (codes "row") (string (codes "note")) (member (codes "writer") (whole tag.writer) no_members))))
-compact_row hall (Respond op Written) =
-    ap (λ (s : List ℕ). behind_call op.0 s) (hall_there hall (member (codes "row") (string (codes "respond")) no_members))
-compact_row hall (Respond op (Value None)) = ap (λ (s : List ℕ). behind_call op.0 s) (hall_there hall (answer_members None))
-compact_row hall (Respond op (Value (Some value))) = ap (λ (s : List ℕ). behind_call op.0 s) (hall_there hall (answer_members (Some value)))
 
 -- ---- bytes that come one after another
 

@@ -1,7 +1,7 @@
 -- A file whose lines are those of its items is read as them.
 use Rattle.std.proofs.Common.{◌≡◌, ◌<◌, ◌≤◌, ℕ, zero, suc, List, [], ◌∷◌, ◌++◌, length, get_or}
-use Rattle.std.proofs.Common.{Some, Result, Ok, codes, IsUtf8, map, refl, sym, ap, ◌∙◌, arith}
-use Rattle.std.proofs.Common.{append-nil, length-append}
+use Rattle.std.proofs.Common.{Some, Result, Ok, codes, IsUtf8, map, refl, sym, ap, ◌∙◌, subst, arith}
+use Rattle.std.proofs.Common.{append-nil, map-id, length-append}
 use Rattle.std.specs.Prelude.{All}
 use Rattle.std.specs.List.{slice_get, flat_map, AllZip}
 use Rattle.json.specs.Print.{quoted}
@@ -75,53 +75,68 @@ all_more line lines h more = λ k d lt. at k d lt
     at zero d lt = h
     at (suc k) d lt = more k d (omega arith)
 
-module _ {Header Item : Type 0} (format : Format Header Item) (header : Header) (value : Item → Data) where
-  pub line_at : Item → List ℕ
+module _ {Header Item Thing : Type 0} (format : Format Header Item) (header : Header) (value : Thing → Data) (item : Thing → Item) where
+  line_at : Thing → List ℕ
   line_at thing = compact_text (value thing)
 
-  lines_text : (items : List Item) → flat_map (λ thing. line_text (value thing)) items ≡ flat_map with_end (map line_at items)
+  lines_text : (things : List Thing) → flat_map (λ thing. line_text (value thing)) things ≡ flat_map with_end (map line_at things)
   unfolding line_text line_at
   lines_text [] = refl
-  lines_text (thing ∷ items) = ap (λ (s : List ℕ). with_end (line_at thing) ++ s) (lines_text items)
+  lines_text (thing ∷ things) = ap (λ (s : List ℕ). with_end (line_at thing) ++ s) (lines_text things)
 
-  AreGood : List Item → Type 0
-  AreGood items = (k : ℕ) (thing : Item) → slice_get items k ≡ Some thing → IsGoodLine (format.meaning header) (value thing) thing
+  AreGood : List Thing → Type 0
+  AreGood things = (k : ℕ) (thing : Thing) → slice_get things k ≡ Some thing
+      → IsGoodLine (format.meaning header) (value thing) (item thing)
 
-  spelled : (items : List Item) → AreGood items → AllZip (IsLineOf format header) (map line_at items) items
+  spelled : (things : List Thing) → AreGood things → AllZip (IsLineOf format header) (map line_at things) (map item things)
   unfolding AreGood line_at
   spelled [] h = tt
-  spelled (thing ∷ items) h = (
-    line_of_item (format.meaning header) (value thing) thing (h 0 thing refl),
-    spelled items (λ k other e. h (suc k) other e),
+  spelled (thing ∷ things) h = (
+    line_of_item (format.meaning header) (value thing) (item thing) (h 0 thing refl),
+    spelled things (λ k other e. h (suc k) other e),
   )
 
-  whole_lines : (items : List Item) → AreGood items → All HasNoEnd (map line_at items)
+  whole_lines : (things : List Thing) → AreGood things → All HasNoEnd (map line_at things)
   unfolding AreGood line_at
   whole_lines [] h = λ k d lt. absurd (omega arith)
-  whole_lines (thing ∷ items) h =
-      all_more (line_at thing) (map line_at items) (HasNoEnd-compact_text (value thing) (h 0 thing refl).simple)
-      (whole_lines items (λ k other e. h (suc k) other e))
+  whole_lines (thing ∷ things) h =
+      all_more (line_at thing) (map line_at things) (HasNoEnd-compact_text (value thing) (h 0 thing refl).simple)
+      (whole_lines things (λ k other e. h (suc k) other e))
 
-  pub written_reads : {Contents : Type 0} (Makes : Header → List Item → Contents → Type 0) (first : Data) (items : List Item)
+  -- a line for each thing, which is one of its item
+  pub things_read : {Contents : Type 0} (Makes : Header → List Item → Contents → Type 0) (first : Data) (things : List Thing)
       (contents : Contents) → IsGoodLine format.heading first header
-      → ((k : ℕ) (thing : Item) → slice_get items k ≡ Some thing → IsGoodLine (format.meaning header) (value thing) thing)
-      → format.Admits header items → Makes header items contents
-      → Reads format Makes (line_text first ++ flat_map (λ thing. line_text (value thing)) items) contents
+      → ((k : ℕ) (thing : Thing) → slice_get things k ≡ Some thing → IsGoodLine (format.meaning header) (value thing) (item thing))
+      → format.Admits header (map item things) → Makes header (map item things) contents
+      → Reads format Makes (line_text first ++ flat_map (λ thing. line_text (value thing)) things) contents
   unfolding line_text AreGood
-  written_reads Makes first items contents head good fits made =
+  things_read Makes first things contents head good fits made =
       let line = compact_text first in
       record {
-        lines = line ∷ map line_at items;
+        lines = line ∷ map line_at things;
         rest = [];
         splits = record {
-          whole = ap (λ (s : List ℕ). with_end line ++ s) (lines_text items)
-              ∙ sym (append-nil (flat_map with_end (line ∷ map line_at items)));
-          each = all_more line (map line_at items) (HasNoEnd-compact_text first head.simple) (whole_lines items good);
+          whole = ap (λ (s : List ℕ). with_end line ++ s) (lines_text things)
+              ∙ sym (append-nil (flat_map with_end (line ∷ map line_at things)));
+          each = all_more line (map line_at things) (HasNoEnd-compact_text first head.simple) (whole_lines things good);
           partial = λ k d lt. absurd (omega arith);
         };
         some = omega arith;
         header = header;
-        items = items;
-        read = record { spelled = (line_of_item format.heading first header head, spelled items good); fits = fits };
+        items = map item things;
+        read = record { spelled = (line_of_item format.heading first header head, spelled things good); fits = fits };
         made = made;
       }
+
+-- a line for each item
+pub written_reads : {Header Item Contents : Type 0} (format : Format Header Item) (header : Header) (value : Item → Data)
+    (Makes : Header → List Item → Contents → Type 0) (first : Data) (items : List Item) (contents : Contents)
+    → IsGoodLine format.heading first header
+    → ((k : ℕ) (thing : Item) → slice_get items k ≡ Some thing → IsGoodLine (format.meaning header) (value thing) thing)
+    → format.Admits header items → Makes header items contents
+    → Reads format Makes (line_text first ++ flat_map (λ thing. line_text (value thing)) items) contents
+written_reads {Item = Item} format header value Makes first items contents head good fits made =
+    let same : items ≡ map (λ (thing : Item). thing) items = sym (map-id items) in
+    things_read format header value (λ (thing : Item). thing) Makes first items contents head good
+    (subst (λ (all : List Item). format.Admits header all) same fits)
+    (subst (λ (all : List Item). Makes header all contents) same made)

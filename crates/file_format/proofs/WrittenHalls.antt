@@ -16,12 +16,13 @@ use Rattle.file_format.specs.declared.hall_row.HallRow.{HallRow}
 use Rattle.file_format.specs.FileHeaders.{halls_in, written_hall, header_with, file_header_in}
 use Rattle.file_format.specs.HallRows.{hall_row_in}
 use Rattle.file_format.specs.HistoriesFormat.{histories_format, MakesHistories}
-use Rattle.file_format.specs.Ranges.{IsRowInRange, HasRowsInRange, HaveFormed, HasLawful}
+use Rattle.file_format.specs.declared.marks.Marks.{Marks}
+use Rattle.file_format.specs.Ranges.{IsRowInRange, HasLineIn, HasRowsInRange, HaveFormed, HasLawful}
 use Rattle.file_format.specs.Readings.{Reads}
 use Rattle.file_format.specs.ReadAgain.{with_room, IsTextOfHistories}
 use Rattle.file_format.specs.Says.{SaysHallRow}
 use Rattle.file_format.specs.Texts.{numbers_data, header_data, file_header_data, header_of_histories}
-use Rattle.file_format.specs.Texts.{rows_from, hall_row_data, histories_text, line_text}
+use Rattle.file_format.specs.Texts.{rows_from, hall_row_data, histories_text, line_text, marked_data}
 use Rattle.file_format.proofs.Compact.{IsSimple, read-compact_text, length-digits}
 use Rattle.file_format.proofs.ListedNumbers.{AreSmall, numbers_simple, numbers_back, numbers_depth, numbers_there, numbers_length}
 use Rattle.file_format.proofs.QuorumRules.{votes_few}
@@ -150,22 +151,31 @@ place_small : (header : FileHeader) (hall : ℕ) → hall < 64 → IsPlace (writ
 place_small Version1 hall h = tt
 place_small (Version2 halls quorums) hall h = omega (arith, h)
 
-says_hall_row : (header : FileHeader) (item : HallRow) → item.hall < halls_in header → IsRowInRange item.row
-    → SaysHallRow header (hall_row_data header item) item
-says_hall_row Version1 item below range = (omega (arith, below), says_row None item.row range)
-says_hall_row (Version2 halls quorums) item below range =
-    record { hall = says_hall item.hall item.row; below = below; said = says_row (Some item.hall) item.row range }
+-- the members that a row of a hall is marked by after that header
+abbrev pub placed_marks : FileHeader → ℕ → Option ℕ → Marks
+placed_marks header hall line = record { hall = written_hall header hall; line = line }
 
-pub good_hall_row : (header : FileHeader) (item : HallRow) → item.hall < halls_in header → item.hall < 64 → IsRowInRange item.row
-    → IsGoodLine (hall_row_in header) (hall_row_data header item) item
-good_hall_row header item below small range =
-    let place = place_small header item.hall small in
-    let plain = good_row (written_hall header item.hall) item.row place range in
+says_hall_row : (header : FileHeader) (item : HallRow) (line : Option ℕ) → item.hall < halls_in header → IsRowInRange item.row
+    → SaysHallRow header (marked_data (placed_marks header item.hall line) item.row) item
+says_hall_row Version1 item line below range =
+    (omega (arith, below), says_row (record { hall = None; line = line }) item.row range)
+says_hall_row (Version2 halls quorums) item line below range = record {
+  hall = says_hall item.hall line item.row;
+  below = below;
+  said = says_row (record { hall = Some item.hall; line = line }) item.row range;
+}
+
+pub good_hall_row : (header : FileHeader) (item : HallRow) (line : Option ℕ) → HasLineIn line → item.hall < halls_in header
+    → item.hall < 64 → IsRowInRange item.row
+    → IsGoodLine (hall_row_in header) (marked_data (placed_marks header item.hall line) item.row) item
+good_hall_row header item line numbered below small range =
+    let marks = placed_marks header item.hall line in
+    let plain = good_row marks item.row (record { hall = place_small header item.hall small; line = numbered }) range in
     record {
       simple = plain.simple;
       short = plain.short;
       back = plain.back;
-      meant = hall_row_there header (hall_row_data header item) item (says_hall_row header item below range);
+      meant = hall_row_there header (marked_data marks item.row) item (says_hall_row header item line below range);
     }
 
 -- ---- the whole text
@@ -192,7 +202,7 @@ histories_read histories h lawful formed ranges =
     let fits = fits_again histories h formed in
     let f = is_from 0 histories.halls k item e in
     let below = (fits.placed k item e).below in
-    good_hall_row header item below (omega (arith, below, count_of_halls histories h, h.count.most))
+    good_hall_row header item None tt below (omega (arith, below, count_of_halls histories h, h.count.most))
     (ranges f.hall f.history f.there f.place item.row f.row))
     (fits_again histories h formed) (made_again histories h)
 

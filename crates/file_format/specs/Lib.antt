@@ -24,6 +24,7 @@ pub mod Says
 pub mod LineFaults
 pub mod LineTexts
 pub mod LineRows
+pub mod NumberedRows
 pub mod Texts
 pub mod Ranges
 pub mod ReadAgain

@@ -14,6 +14,7 @@ use Rattle.recorder.specs.declared.row.Row.TheVariants.{Invoke, Note, Respond}
 use Rattle.quorum.specs.Quorums.{Quorums, IsLawful}
 use Rattle.recorder.specs.Histories.{Recorded, IsWellFormed}
 use Rattle.recorder.specs.declared.order.KeyOrder.{KeyOrder}
+use Rattle.file_format.specs.NumberedRows.{NumberedRow}
 
 -- a number of 32 bits
 abbrev pub IsOp : OpId → Type 0
@@ -63,6 +64,21 @@ IsRowInRange (Respond op returned) = IsResponse op returned
 -- each row's fields are in their ranges
 abbrev pub AreRowsInRange : List Row → Type 0
 AreRowsInRange rows = (k : ℕ) (row : Row) → slice_get rows k ≡ Some row → IsRowInRange row
+
+-- the number of a row's line, if it has one, has 64 bits
+abbrev pub HasLineIn : Option ℕ → Type 0
+HasLineIn None = Unit {0}
+HasLineIn (Some line) = line < 2 ^ 64
+
+-- the row's fields are in their ranges, and the number of its line has 64 bits
+pub record IsNumberedInRange (numbered : NumberedRow) : Type 0 where
+  pub line : numbered.line < 2 ^ 64
+  pub row : IsRowInRange numbered.row
+
+-- each row with its number is in its range
+abbrev pub AreNumberedInRange : List NumberedRow → Type 0
+AreNumberedInRange rows = (k : ℕ) (numbered : NumberedRow) → slice_get rows k ≡ Some numbered
+    → IsNumberedInRange numbered
 
 -- a history, with its rows' fields in their ranges
 pub record IsWritten (history : Recorded) : Type 0 where

@@ -7,6 +7,7 @@ use Rattle.recorder.specs.declared.row.Row.{Row}
 use Rattle.recorder.specs.declared.order.KeyOrder.{KeyOrder}
 use Rattle.file_format.specs.Readings.{Reads}
 use Rattle.file_format.specs.HistoryFormat.{history_format, MakesHistory}
+use Rattle.file_format.specs.LongHistories.{long_history_format, MakesRows}
 use Rattle.file_format.specs.HistoriesFormat.{histories_format, MakesHistories}
 use Rattle.file_format.specs.OrderFormat.{order_format, MakesJoined}
 
@@ -14,6 +15,12 @@ use Rattle.file_format.specs.OrderFormat.{order_format, MakesJoined}
 pub record IsTextOf (text : List ℕ) (rows : List Row) : Type 0 where
   pub read : Reads history_format MakesHistory text (record { rows = rows; limit = call_limit })
   pub alone : (history : Recorded) → Reads history_format MakesHistory text history → history.rows
+      ≡ rows
+
+-- the text is read as a history of any length of the rows, and as no others
+pub record IsTextOfRows (text : List ℕ) (rows : List Row) : Type 0 where
+  pub read : Reads long_history_format MakesRows text rows
+  pub alone : (others : List Row) → Reads long_history_format MakesRows text others → others
       ≡ rows
 
 -- the text is read as the orders, and as no others

@@ -20,7 +20,9 @@ use Rattle.counted_devices.specs.Cuts.{with_end}
 use Rattle.file_format.specs.declared.file_header.FileHeader.{FileHeader}
 use Rattle.file_format.specs.declared.file_header.FileHeader.TheVariants.{Version1, Version2}
 use Rattle.file_format.specs.declared.hall_row.HallRow.{HallRow}
+use Rattle.file_format.specs.declared.marks.Marks.{Marks}
 use Rattle.file_format.specs.FileHeaders.{written_hall, header_with}
+use Rattle.file_format.specs.NumberedRows.{NumberedRow}
 
 -- a number without a sign
 abbrev pub whole : ℕ → Data
@@ -80,30 +82,48 @@ abbrev pub hall_text : Option ℕ → List ℕ
 hall_text None = []
 hall_text (Some hall) = codes ",\"hall\":" ++ decimal hall
 
--- a row's value, with its hall where that is a member
-unfoldable pub row_data : Option ℕ → Row → Data
-row_data hall (Invoke op client key action) = object_with (
+-- the number of the row's line in a file that is split, where the row has one as a member, before
+-- others
+abbrev pub line_member : Option ℕ → Members → Members
+line_member None others = others
+line_member (Some line) others = number_member (codes "line") line others
+
+-- the bytes of that member, a comma before it
+abbrev pub line_member_text : Option ℕ → List ℕ
+line_member_text None = []
+line_member_text (Some line) = codes ",\"line\":" ++ decimal line
+
+-- a row's value, with the members that it is marked by
+unfoldable pub marked_data : Marks → Row → Data
+marked_data marks (Invoke op client key action) = object_with (
     number_member (codes "call") op.0
     ∷ number_member (codes "client") client
     ∷ text_member (codes "do") (action_name action)
-    ∷ hall_member hall
+    ∷ hall_member marks.hall
     ∷ text_member (codes "key") key
+    ∷ line_member marks.line
     ∷ text_member (codes "row") (codes "invoke")
     ∷ asked_member action
     ∷ [])
-row_data hall (Note op tag) = object_with (
+marked_data marks (Note op tag) = object_with (
     number_member (codes "call") op.0
-    ∷ hall_member hall
+    ∷ hall_member marks.hall
+    ∷ line_member marks.line
     ∷ number_member (codes "number") tag.number
     ∷ text_member (codes "row") (codes "note")
     ∷ number_member (codes "writer") tag.writer
     ∷ [])
-row_data hall (Respond op returned) = object_with (
+marked_data marks (Respond op returned) = object_with (
     number_member (codes "call") op.0
-    ∷ hall_member hall
+    ∷ hall_member marks.hall
+    ∷ line_member marks.line
     ∷ text_member (codes "row") (codes "respond")
     ∷ answered_member returned
     ∷ [])
+
+-- a row's value, with its hall where that is a member
+abbrev pub row_data : Option ℕ → Row → Data
+row_data hall row = marked_data (record { hall = hall; line = None }) row
 
 -- numbers without a sign
 abbrev pub numbers_data : List ℕ → Items
@@ -147,6 +167,10 @@ pieces_of order = map (λ calls. record { key = order.key; order = calls }) (cut
 unfoldable pub line_text : Data → List ℕ
 line_text d = with_end (compact_text d)
 
+-- the line of a row, with the members that it is marked by
+abbrev pub marked_text : Marks → Row → List ℕ
+marked_text marks row = line_text (marked_data marks row)
+
 -- the line of a row, with its hall where that is a member
 abbrev pub row_text_with : Option ℕ → Row → List ℕ
 row_text_with hall row = line_text (row_data hall row)
@@ -166,6 +190,16 @@ order_text order = flat_map piece_text (pieces_of order)
 -- the text of a history of those rows
 abbrev pub history_text : List Row → List ℕ
 history_text rows = line_text (header_data (codes "history")) ++ flat_map row_text rows
+
+-- the line of a row, with the number of its line in a file that is split
+abbrev pub numbered_text : NumberedRow → List ℕ
+numbered_text numbered =
+    marked_text (record { hall = None; line = Some numbered.line }) numbered.row
+
+-- the text of a history of those rows, each with its number
+abbrev pub numbered_history_text : List NumberedRow → List ℕ
+numbered_history_text numbered =
+    line_text (header_data (codes "history")) ++ flat_map numbered_text numbered
 
 -- the header of the histories' file: version 2 where the quorums are known, else version 1
 abbrev pub header_of_histories : RecordedHalls → FileHeader

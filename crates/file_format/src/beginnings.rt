@@ -4,10 +4,12 @@ ghost use Rattle.std.specs.List.{list_all};
 ghost use Rattle.std.specs.Prelude.{◌≡◌, ◌++◌, codes, decimal, true, IfSome, IsTrue, IsUtf8};
 ghost use Rattle.json.specs.Print.{quoted};
 ghost use Rattle.tag.specs.Names.{is_key};
-ghost use Rattle.file_format.specs.Ranges.{IsValue};
-ghost use Rattle.file_format.specs.Texts.{hall_text};
+ghost use Rattle.file_format.specs.Ranges.{HasLineIn, IsValue};
+ghost use Rattle.file_format.specs.RowTexts.{after_key, after_marks};
+ghost use Rattle.file_format.specs.Texts.{hall_text, line_member_text};
 
 use crate::line_texts::LinePart;
+use crate::marks::Marks;
 use row_members::plain_run;
 use std::str;
 use tag::is_key;
@@ -79,7 +81,7 @@ fn first_text(bytes: &[u8]) -> Option<(LinePart<'_>, bool, &[u8])>
 
 /// The number of the row's hall, where the bytes begin with it as a member, and what is after it.
 #[inline(always)]
-pub(crate) fn first_hall(bytes: &[u8]) -> Option<(Option<u8>, &[u8])>
+fn first_hall(bytes: &[u8]) -> Option<(Option<u8>, &[u8])>
     ensures { IfSome result (λ found. bytes.now ≡ hall_text found.0 ++ found.1.now) }
 {
     let Some(rest) = behind(bytes, b",\"hall\":") else {
@@ -90,6 +92,30 @@ pub(crate) fn first_hall(bytes: &[u8]) -> Option<(Option<u8>, &[u8])>
         return None;
     }
     Some((Some(hall as u8), rest))
+}
+
+/// The number of the row's line, where the bytes begin with it as a member, and what is after it.
+#[inline(always)]
+fn first_line(bytes: &[u8]) -> Option<(Option<u64>, &[u8])>
+    ensures text { IfSome result (λ found. bytes.now ≡ line_member_text found.0 ++ found.1.now) }
+    ensures range { IfSome result (λ found. HasLineIn found.0) }
+{
+    let Some(rest) = behind(bytes, b",\"line\":") else {
+        return Some((None, bytes));
+    };
+    let (line, count) = row_members::first_number(rest)?;
+    Some((Some(line), &rest[count..]))
+}
+
+/// The members that a note or a response is marked by, with which the bytes begin, and what is after them.
+#[inline(always)]
+pub(crate) fn first_marks(bytes: &[u8]) -> Option<(Marks, &[u8])>
+    ensures text { IfSome result (λ found. bytes.now ≡ after_marks found.0 found.1.now) }
+    ensures range { IfSome result (λ found. HasLineIn found.0.line) }
+{
+    let (hall, rest) = first_hall(bytes)?;
+    let (line, rest) = first_line(rest)?;
+    Some((Marks { hall, line }, rest))
 }
 
 /// The key that the bytes begin with as a member, and what is after it.
@@ -107,16 +133,19 @@ fn first_key(bytes: &[u8]) -> Option<(LinePart<'_>, &[u8])>
     Some((key, rest))
 }
 
-/// The hall, where it is a member, and the key that the bytes begin with, and what is after them.
+/// The key, between the members that an invocation is marked by, with which the bytes begin, and what is
+/// after them.
 #[inline(always)]
-pub(crate) fn first_members(bytes: &[u8]) -> Option<(Option<u8>, LinePart<'_>, &[u8])>
-    ensures text { IfSome result (λ found. bytes.now
-        ≡ hall_text found.0 ++ (codes ",\"key\":" ++ (quoted found.1.text.now ++ found.2.now))) }
+pub(crate) fn first_members(bytes: &[u8]) -> Option<(Marks, LinePart<'_>, &[u8])>
+    ensures text { IfSome result
+        (λ found. bytes.now ≡ after_key found.0 found.1.text.now found.2.now) }
     ensures lawful { IfSome result (λ found. is_key found.1.text.now ≡ true) }
+    ensures range { IfSome result (λ found. HasLineIn found.0.line) }
 {
     let (hall, rest) = first_hall(bytes)?;
     let (key, rest) = first_key(rest)?;
-    Some((hall, key, rest))
+    let (line, rest) = first_line(rest)?;
+    Some((Marks { hall, line }, key, rest))
 }
 
 /// Whether the bytes, which may be known to be ASCII, are a text.

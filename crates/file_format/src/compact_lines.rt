@@ -1,22 +1,23 @@
 //! Lines as this crate writes them, read without JSON.
 //!
 //! A row's line is taken in one pass, and each piece of it is compared with what is written there:
-//! a line that is written otherwise isn't taken, and is read member by member. The line of a
+//! a line that is written otherwise isn't taken, and is read member by member. The number of a line, which
+//! a row may be marked by, is compared so too, and is nothing that is kept. The line of a
 //! piece of an order is guessed from its bytes, and taken only where the line that is written for
 //! the guess is the very same; so nothing rests on the guess but the time that it takes.
 ghost use Rattle.std.specs.Prelude.{◌≡◌, ◌++◌, codes, decimal, IfOk, IfSome, IsTrue};
 ghost use Rattle.counted_devices.specs.Cuts.{with_end};
 ghost use Rattle.file_format.specs.CanonicalLines.{IsHallRowLine, IsPieceLine, IsRowLine};
-ghost use Rattle.file_format.specs.Ranges.{IsOp};
-ghost use Rattle.file_format.specs.RowTexts.{after_call, after_client, noted_text};
+ghost use Rattle.file_format.specs.Ranges.{HasLineIn, IsOp};
+ghost use Rattle.file_format.specs.RowTexts.{after_call, after_client, after_marks, noted_text};
 ghost use Rattle.file_format.specs.SaidRows.{IsSaidBy};
-ghost use Rattle.file_format.specs.Texts.{hall_text};
 
-use crate::beginnings::{behind, first_hall, first_members, first_number, is_all, last_value};
+use crate::beginnings::{behind, first_marks, first_members, first_number, is_all, last_value};
 use crate::file_header::FileHeader;
 use crate::hall_row::HallRow;
 use crate::line_row::{LineRow, RowKind};
 use crate::line_texts::{LinePart, LinePlace, LineText};
+use crate::marks::Marks;
 use crate::order_piece::OrderPiece;
 use crate::texts::{MOST_IN_PIECE, append_piece};
 use recorder::Order;
@@ -51,12 +52,12 @@ fn asked_read(op: OpId, client: ClientId, bytes: &[u8]) -> Option<SaidRow<'_>>
 {
     call_in_range(op);
     let _name = client.get();
-    let (hall, key, rest) = first_members(bytes)?;
+    let (marks, key, rest) = first_members(bytes)?;
     if !is_all(rest, b",\"row\":\"invoke\"}") {
         return None;
     }
     Some(SaidRow {
-        hall,
+        hall: marks.hall,
         kind: RowKind::Read { op, client },
         key,
         value: LinePart::none(),
@@ -71,11 +72,11 @@ fn asked_write(op: OpId, client: ClientId, bytes: &[u8]) -> Option<SaidRow<'_>>
 {
     call_in_range(op);
     let _name = client.get();
-    let (hall, key, rest) = first_members(bytes)?;
+    let (marks, key, rest) = first_members(bytes)?;
     let rest = behind(rest, b",\"row\":\"invoke\",\"value\":")?;
     let value = last_value(rest)?;
     Some(SaidRow {
-        hall,
+        hall: marks.hall,
         kind: RowKind::Write { op, client },
         key,
         value,
@@ -117,14 +118,15 @@ fn note_tag(bytes: &[u8]) -> Option<Tag>
 
 /// The note whose line has these bytes after `"number":`.
 #[inline(always)]
-fn note(op: OpId, hall: Option<u8>, bytes: &[u8]) -> Option<SaidRow<'_>>
+fn note(op: OpId, marks: Marks, bytes: &[u8]) -> Option<SaidRow<'_>>
+    requires { HasLineIn marks.line }
     ensures { IfSome result
-        (IsSaidBy (after_call op (hall_text hall ++ (codes ",\"number\":" ++ bytes.now)))) }
+        (IsSaidBy (after_call op (after_marks marks (codes ",\"number\":" ++ bytes.now)))) }
 {
     let tag = note_tag(bytes)?;
     let none = LinePart::none();
     Some(SaidRow {
-        hall,
+        hall: marks.hall,
         kind: RowKind::Note { op, tag },
         key: none,
         value: none,
@@ -133,16 +135,17 @@ fn note(op: OpId, hall: Option<u8>, bytes: &[u8]) -> Option<SaidRow<'_>>
 
 /// The response whose line has these bytes after its kind.
 #[inline(always)]
-fn response(op: OpId, hall: Option<u8>, bytes: &[u8]) -> Option<SaidRow<'_>>
+fn response(op: OpId, marks: Marks, bytes: &[u8]) -> Option<SaidRow<'_>>
+    requires { HasLineIn marks.line }
     ensures { IfSome result (IsSaidBy
-        (after_call op (hall_text hall ++ (codes ",\"row\":\"respond\"" ++ bytes.now)))) }
+        (after_call op (after_marks marks (codes ",\"row\":\"respond\"" ++ bytes.now)))) }
 {
     call_in_range(op);
     let none = LinePart::none();
     if is_all(bytes, b"}") {
         let kind = RowKind::Done { op };
         return Some(SaidRow {
-            hall,
+            hall: marks.hall,
             kind,
             key: none,
             value: none,
@@ -151,7 +154,7 @@ fn response(op: OpId, hall: Option<u8>, bytes: &[u8]) -> Option<SaidRow<'_>>
     if is_all(bytes, b",\"value\":null}") {
         let kind = RowKind::Absent { op };
         return Some(SaidRow {
-            hall,
+            hall: marks.hall,
             kind,
             key: none,
             value: none,
@@ -161,7 +164,7 @@ fn response(op: OpId, hall: Option<u8>, bytes: &[u8]) -> Option<SaidRow<'_>>
     let value = last_value(rest)?;
     let kind = RowKind::Answer { op };
     Some(SaidRow {
-        hall,
+        hall: marks.hall,
         kind,
         key: none,
         value,
@@ -173,12 +176,12 @@ fn response(op: OpId, hall: Option<u8>, bytes: &[u8]) -> Option<SaidRow<'_>>
 fn later(op: OpId, bytes: &[u8]) -> Option<SaidRow<'_>>
     ensures { IfSome result (IsSaidBy (after_call op bytes.now)) }
 {
-    let (hall, rest) = first_hall(bytes)?;
+    let (marks, rest) = first_marks(bytes)?;
     if let Some(rest) = behind(rest, b",\"number\":") {
-        return note(op, hall, rest);
+        return note(op, marks, rest);
     }
     let rest = behind(rest, b",\"row\":\"respond\"")?;
-    response(op, hall, rest)
+    response(op, marks, rest)
 }
 
 /// The row that the line is written for, and what the line has as its member `hall`.

@@ -4,13 +4,14 @@ ghost use Rattle.serde_json.specs.Data.{Data};
 ghost use Rattle.tag.specs.Limits.{call_limit};
 ghost use Rattle.recorder.specs.declared.row.Row.{Row};
 ghost use Rattle.recorder.specs.declared.order.KeyOrder.{KeyOrder};
-ghost use Rattle.recorder.specs.Histories.{Recorded, call_count};
+ghost use Rattle.recorder.specs.Histories.{IsWellFormed, Recorded, call_count};
 ghost use Rattle.file_format.specs.declared.fault.LineFault.{LineFault};
 ghost use Rattle.file_format.specs.declared.fault.LineFault.TheVariants.{Version, TooManyCalls};
 ghost use Rattle.file_format.specs.CanonicalLines.{IsRowLine, IsHallRowLine, IsPieceLine};
 ghost use Rattle.file_format.specs.Lines.{LineShows};
 ghost use Rattle.file_format.specs.LineFaults.{FaultsAre, HasRowFault, HasHallRowFault};
 ghost use Rattle.file_format.specs.LineFaults.{HasPieceFault, HasHeaderFault, HasFileHeaderFault};
+ghost use Rattle.counted_devices.specs.Cuts.{with_end};
 ghost use Rattle.counted_devices.specs.FirstFaults.{FirstFaultInAll};
 ghost use Rattle.file_format.specs.Files.{file_rules};
 ghost use Rattle.file_format.specs.Readings.{Reads};
@@ -23,14 +24,17 @@ ghost use Rattle.file_format.specs.HistoriesFormat.{histories_format, MakesHisto
 ghost use Rattle.file_format.specs.declared.file_header.FileHeader.{FileHeader};
 ghost use Rattle.file_format.specs.declared.hall_row.HallRow.{HallRow};
 ghost use Rattle.recorder.specs.Halls.{RecordedHalls, AreHalls};
-ghost use Rattle.file_format.specs.ReadAgain.{IsTextOfHistories};
+ghost use Rattle.file_format.specs.NumberedRows.{NumberedRow, rows_alone};
+ghost use Rattle.file_format.specs.ReadAgain.{IsTextOfHistories, IsTextOfRows};
 ghost use Rattle.file_format.specs.OrderFormat.{order_format, MakesJoined, AreFew};
 ghost use Rattle.file_format.specs.OrderLines.{piece_in};
 ghost use Rattle.file_format.specs.Ranges.{AreRowsInRange, HasRowsInRange, HaveFormed, HasLawful};
+ghost use Rattle.file_format.specs.Ranges.{AreNumberedInRange, IsNumberedInRange};
 ghost use Rattle.file_format.specs.Ranges.{AreOrdersInRange, HaveDistinctKeys};
 ghost use Rattle.file_format.specs.Rows.{row_in};
 ghost use Rattle.file_format.specs.Says.{SaysRow, SaysHallRow, SaysHeader, SaysFileHeader, SaysPiece};
 ghost use Rattle.file_format.specs.Texts.{history_text, histories_text, orders_text};
+ghost use Rattle.file_format.specs.Texts.{numbered_history_text, numbered_text};
 
 /// A JSON value is read as a row exactly where its members say the row.
 pub fn a_row_is_read_where_its_members_say_it()
@@ -95,9 +99,15 @@ pub fn a_line_shows_one_row_or_fault()
         → LineShows row_in line b → a ≡ b }
 {}
 
-/// A line that is the one written for a row shows that row.
+/// A line that is the one written for a row, with some number of a line or with none, shows that row.
 pub fn a_line_written_for_a_row_shows_it()
     ensures { (line : List ℕ) (row : Row) → IsRowLine line row → LineShows row_in line (Ok row) }
+{}
+
+/// A line that is the one written for a row with the number of its line in a file that is split shows that row.
+pub fn a_line_written_for_a_numbered_row_shows_the_row()
+    ensures { (line : List ℕ) (numbered : NumberedRow) → with_end line ≡ numbered_text numbered
+        → IsNumberedInRange numbered → LineShows row_in line (Ok numbered.row) }
 {}
 
 /// After a header, a line that is the one written for a row of a hall shows that row.
@@ -162,6 +172,14 @@ pub fn bytes_are_read_as_the_same_rows()
     ensures sound { (bytes : List ℕ) (rows : List Row) (n : ℕ) (fault : LineFault)
         → Reads long_history_format MakesRows bytes rows
         → FirstFaultInAll (file_rules long_history_format) bytes n fault → ⊥ }
+{}
+
+/// What is written of rows with the numbers of their lines in a file that is split is read as a history of
+/// any length of these rows, and as no others.
+pub fn numbered_rows_are_read_from_their_text()
+    ensures { (numbered : List NumberedRow) → IsWellFormed (rows_alone numbered)
+        → AreNumberedInRange numbered
+        → IsTextOfRows (numbered_history_text numbered) (rows_alone numbered) }
 {}
 
 /// Bytes are read as one row of histories.

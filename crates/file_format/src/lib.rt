@@ -21,6 +21,8 @@ mod line_item;
 mod line_row;
 mod line_texts;
 mod line_tools;
+mod marks;
+mod numbered_rows;
 mod numerals;
 mod order_lines;
 mod order_piece;
@@ -43,6 +45,9 @@ pub use judge_lines::{judge_file_header, judge_header, judge_with};
 pub use line_item::LineItem;
 pub use line_row::LineRow;
 pub use line_tools::LineTools;
+pub use numbered_rows::{
+    append_history_header, append_numbered_invoke, append_numbered_note, append_numbered_respond,
+};
 pub use order_piece::OrderPiece;
 pub use orders::{JoinedOrders, join};
 pub use writing::{history_text, write_histories, write_history, write_orders};

@@ -11,14 +11,16 @@ ghost use Rattle.tag.specs.declared.actions.Returned.{Returned};
 ghost use Rattle.file_format.specs.Ranges.{IsOp, HasAnswerIn, AreOps, IsInvocation, IsNote};
 ghost use Rattle.file_format.specs.Ranges.{IsResponse, IsRowInRange, IsOrderInRange};
 ghost use Rattle.file_format.specs.Texts.{header_data, file_header_data, hall_text, answered_member};
-ghost use Rattle.file_format.specs.Texts.{calls_data, numbers_data, line_text, row_text_with};
+ghost use Rattle.file_format.specs.Texts.{line_member_text, calls_data, numbers_data, line_text};
+ghost use Rattle.file_format.specs.Texts.{marked_text, row_text_with};
 ghost use Rattle.file_format.specs.Texts.{piece_text};
 
 use crate::file_header::FileHeader;
+use crate::marks::Marks;
 use itoa::Buffer;
 use json::Writer;
 use quorum::{Quorums, ReplicaSet};
-use recorder::{ActionRef, Halls, KeyRef, ReturnedRef, Row, ValueRef};
+use recorder::{ActionRef, Halls, ReturnedRef, Row, ValueRef};
 use row_members::is_plain_byte;
 use std::mem;
 use tag::{ClientId, Memory, OpId, ReplicaId, Tag};
@@ -154,48 +156,67 @@ fn append_hall(out: &mut Vec<u8>, before: &[u8], hall: Option<u8>) -> Result<(),
     }
 }
 
-fn append_invoke(
+/// Adds the number of the row's line, where that is a member.
+fn append_line(out: &mut Vec<u8>, line: Option<u64>) -> Result<(), Memory>
+    ensures { OnOk result (out.new.items ≡ out.old.items ++ line_member_text line) }
+{
+    let Some(line) = line else {
+        return Ok(());
+    };
+    let mut digits = Buffer::new();
+    out.extend_from_slice(b",\"line\":")?;
+    out.extend_from_slice(digits.format(line).as_bytes())?;
+    Ok(())
+}
+
+/// Adds the line of a row that begins a call, with the members that it is marked by.
+pub(crate) fn append_invoke(
     out: &mut Vec<u8>,
-    hall: Option<u8>,
+    marks: Marks,
     op: OpId,
     client: ClientId,
-    key: &KeyRef<'_>,
+    key: &str,
     action: &ActionRef<'_>,
 ) -> Result<(), Memory>
+    requires { is_key key.now ≡ true }
     ensures text { OnOk result (out.new.items
-        ≡ out.old.items ++ row_text_with hall (Row.Invoke op client key.now action.now)) }
+        ≡ out.old.items ++ marked_text marks (Row.Invoke op client key.now action.now)) }
     ensures range { OnOk result (IsInvocation op client key.now action.now) }
 {
     append_number(out, b"{\"call\":", op.0)?;
     append_number(out, b",\"client\":", client.get())?;
     match action.written() {
         None => {
-            append_hall(out, b",\"do\":\"read\"", hall)?;
-            append_quoted(out, b",\"key\":", key.as_str())?;
+            append_hall(out, b",\"do\":\"read\"", marks.hall)?;
+            append_quoted(out, b",\"key\":", key)?;
+            append_line(out, marks.line)?;
             append(out, b",\"row\":\"invoke\"}\n")
         }
         Some(value) => {
-            append_hall(out, b",\"do\":\"write\"", hall)?;
-            append_quoted(out, b",\"key\":", key.as_str())?;
+            append_hall(out, b",\"do\":\"write\"", marks.hall)?;
+            append_quoted(out, b",\"key\":", key)?;
+            append_line(out, marks.line)?;
             append_quoted(out, b",\"row\":\"invoke\",\"value\":", value.as_str())?;
             append(out, b"}\n")
         }
     }
 }
 
-fn append_note(out: &mut Vec<u8>, hall: Option<u8>, op: OpId, tag: Tag) -> Result<(), Memory>
+/// Adds the line of a row that notes a call's tag, with the members that it is marked by.
+pub(crate) fn append_note(out: &mut Vec<u8>, marks: Marks, op: OpId, tag: Tag) -> Result<(), Memory>
     ensures text { OnOk result (out.new.items
-        ≡ out.old.items ++ row_text_with hall (Row.Note op tag)) }
+        ≡ out.old.items ++ marked_text marks (Row.Note op tag)) }
     ensures range { OnOk result (IsNote op tag) }
 {
     append_number(out, b"{\"call\":", op.0)?;
-    append_hall(out, b"", hall)?;
+    append_hall(out, b"", marks.hall)?;
+    append_line(out, marks.line)?;
     append_number(out, b",\"number\":", tag.number())?;
     append_number(out, b",\"row\":\"note\",\"writer\":", tag.writer())?;
     append(out, b"}\n")
 }
 
-/// Adds what a read's response has after its call and its hall.
+/// Adds what a read's response has after its call and the members that it is marked by.
 fn append_answer(out: &mut Vec<u8>, answer: Option<ValueRef<'_>>) -> Result<(), Memory>
     ensures text { OnOk result (out.new.items
         ≡ out.old.items ++ with_end
@@ -212,18 +233,20 @@ fn append_answer(out: &mut Vec<u8>, answer: Option<ValueRef<'_>>) -> Result<(), 
     }
 }
 
-fn append_respond(
+/// Adds the line of a row that answers a call, with the members that it is marked by.
+pub(crate) fn append_respond(
     out: &mut Vec<u8>,
-    hall: Option<u8>,
+    marks: Marks,
     op: OpId,
     returned: &ReturnedRef<'_>,
 ) -> Result<(), Memory>
     ensures text { OnOk result (out.new.items
-        ≡ out.old.items ++ row_text_with hall (Row.Respond op returned.now)) }
+        ≡ out.old.items ++ marked_text marks (Row.Respond op returned.now)) }
     ensures range { OnOk result (IsResponse op returned.now) }
 {
     append_number(out, b"{\"call\":", op.0)?;
-    append_hall(out, b"", hall)?;
+    append_hall(out, b"", marks.hall)?;
+    append_line(out, marks.line)?;
     match returned.answered() {
         None => append(out, b",\"row\":\"respond\"}\n"),
         Some(answer) => append_answer(out, answer),
@@ -235,15 +258,16 @@ pub(crate) fn append_row(out: &mut Vec<u8>, hall: Option<u8>, row: &Row<'_>) -> 
     ensures text { OnOk result (out.new.items ≡ out.old.items ++ row_text_with hall row.now) }
     ensures range { OnOk result (IsRowInRange row.now) }
 {
+    let marks = Marks { hall, line: None };
     match row {
         Row::Invoke {
             op,
             client,
             key,
             action,
-        } => append_invoke(out, hall, *op, *client, key, action),
-        Row::Note { op, tag } => append_note(out, hall, *op, *tag),
-        Row::Respond { op, returned } => append_respond(out, hall, *op, returned),
+        } => append_invoke(out, marks, *op, *client, key.as_str(), action),
+        Row::Note { op, tag } => append_note(out, marks, *op, *tag),
+        Row::Respond { op, returned } => append_respond(out, marks, *op, returned),
     }
 }
 

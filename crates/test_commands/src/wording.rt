@@ -2,7 +2,7 @@
 use client_phases::ReadMode;
 use command_line::{
     By, CheckAsked, Command, DecideAsked, DrawAsked, JustifyAsked, KeysAsked, Lines, MonitorAsked,
-    RunAsked, Shown, Usage, command,
+    RunAsked, Shown, SplitAsked, Usage, command,
 };
 use std::alloc::{AllocError, Global};
 use test_rows::{Answer, text_said, words_of};
@@ -117,6 +117,12 @@ fn say_monitoring(out: &mut Answer, asked: &MonitorAsked<'_>) {
     );
 }
 
+/// What is split, into how many pieces, and where.
+fn say_splitting(out: &mut Answer, asked: &SplitAsked<'_>) {
+    let (history, parts, into) = (asked.history.unwrap_or(""), asked.parts, asked.into);
+    write!(out, "split of [{history}] into {parts} in [{into}]\n");
+}
+
 /// What the command asks for.
 fn say_asked(out: &mut Answer, asked: &Command<'_>) {
     match asked {
@@ -130,6 +136,7 @@ fn say_asked(out: &mut Answer, asked: &Command<'_>) {
         Command::Justify(asked) => say_justification(out, asked),
         Command::Monitor(asked) => say_monitoring(out, asked),
         Command::Simulate { script } => write!(out, "simulate of [{script}]\n"),
+        Command::Split(asked) => say_splitting(out, asked),
         Command::Trace { script, most } => write!(out, "trace of [{script}], most {most}\n"),
         Command::TracePage { script, most } => write!(out, "page of [{script}], most {most}\n"),
         Command::Run(asked) => say_run(out, asked),

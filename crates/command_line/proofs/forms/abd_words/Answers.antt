@@ -1,25 +1,26 @@
 -- Each command that is added is one shape more.
 use Rattle.std.proofs.Common.{◌≡◌, ap, ◌∙◌}
 use Rattle.std.proofs.lemmas.Result.{IfOk-weaker}
-use Rattle.clap.specs.Words.{AddsSubcommand, App, app_of, with_subcommand}
+use Rattle.clap.specs.Words.{App, app_of, with_subcommand}
+use Rattle.std.specs.Prelude.{Result, IfOk}
 use Rattle.clap.specs.declared.builder.command.Command.{Command}
-use Rattle.command_line.specs.CommandWords.{IsForm}
-use Rattle.command_line.specs.Forms.{run_app}
+use Rattle.command_line.specs.CommandWords.{IsAdded, IsForm}
+use Rattle.command_line.specs.Forms.{check_app, decide_app, draw_app, explain_app, justify_app, monitor_app, run_app, simulate_app, split_app, trace_app}
 use Rattle.command_line.proofs.forms.abd_words.Goals as goal
 
-added : (words made more : Command) (app form : App) → app_of words ≡ app → IsForm form made → AddsSubcommand words made more
-    → app_of more ≡ with_subcommand app form.top
-added words made more app form is of adds =
-    adds.shape of.local ∙ ap (λ (a : App). with_subcommand a (app_of made).top) is ∙ ap (λ (a : App). with_subcommand app a.top) of.is
+next : {E : Type 0} (words more : Command) (one : Result Command E) (app form : App) → app_of words ≡ app → IfOk one (IsForm form)
+    → IsAdded (app_of words) one more → app_of more ≡ with_subcommand app form.top
+next words more one app form is made adds = adds form made ∙ ap (λ (a : App). with_subcommand a form.top) is
 
 pub returns : goal.returns
 returns c =
-    let with_check = added _ _ _ _ _ c.in_ok-bare_words.ensures c.in_ok-check_words.ensures c.in_ok-words.ensures in
-    let with_decide = added _ _ _ _ _ with_check c.in_ok-decide_words.ensures c.in_ok-words-2.ensures in
-    let with_draw = added _ _ _ _ _ with_decide c.in_ok-draw_words.ensures c.in_ok-words-3.ensures in
-    let with_explain = added _ _ _ _ _ with_draw c.in_ok-explain_words.ensures c.in_ok-words-4.ensures in
-    let with_justify = added _ _ _ _ _ with_explain c.in_ok-justify_words.ensures c.in_ok-words-5.ensures in
-    let with_monitor = added _ _ _ _ _ with_justify c.in_ok-monitor_words.ensures c.in_ok-words-6.ensures in
-    let with_simulate = added _ _ _ _ _ with_monitor c.in_ok-simulate_words.ensures c.in_ok-words-7.ensures in
-    let with_trace = added _ _ _ _ _ with_simulate c.in_ok-trace_words.ensures c.in_ok-words-8.ensures in
-    IfOk-weaker c.subcommand-9.result _ _ (λ r adds. added _ _ r _ run_app with_trace c.in_ok-run_words.ensures adds) c.subcommand-9.ensures
+    let with_check = next _ _ _ _ check_app c.in_ok-bare_words.ensures c.check_words.ensures c.in_ok-words.ensures in
+    let with_decide = next _ _ _ _ decide_app with_check c.decide_words.ensures c.in_ok-words-2.ensures in
+    let with_draw = next _ _ _ _ draw_app with_decide c.draw_words.ensures c.in_ok-words-3.ensures in
+    let with_explain = next _ _ _ _ explain_app with_draw c.explain_words.ensures c.in_ok-words-4.ensures in
+    let with_justify = next _ _ _ _ justify_app with_explain c.justify_words.ensures c.in_ok-words-5.ensures in
+    let with_monitor = next _ _ _ _ monitor_app with_justify c.monitor_words.ensures c.in_ok-words-6.ensures in
+    let with_simulate = next _ _ _ _ simulate_app with_monitor c.simulate_words.ensures c.in_ok-words-7.ensures in
+    let with_split = next _ _ _ _ split_app with_simulate c.split_words.ensures c.in_ok-words-8.ensures in
+    let with_trace = next _ _ _ _ trace_app with_split c.trace_words.ensures c.in_ok-words-9.ensures in
+    IfOk-weaker c.added-10.result _ _ (λ r adds. next _ r _ _ run_app with_trace c.run_words.ensures adds) c.added-10.ensures

@@ -17,8 +17,10 @@ returns-in-Some-2 c =
     let same : written_hall header hall ≡ said.hall = sym c.place.ensures ∙ c.is_same.ensures c.if-not-is_same.false in
     let row : c.in-Some-2.row ≡ row_said said = rw c.in-Some-2.is at c.in_ok-row.ensures in
     subst (λ (r : Row). IsHallRowLine header line (record { hall = hall; row = r })) (sym row) (record {
-      text = row_line line (written_hall header hall) (row_said said) (by_line.text
-          ∙ ap (λ (hall : Option ℕ). row_bytes hall (row_said said)) (sym same));
+      number = by_line.number;
+      numbered = by_line.numbered;
+      text = row_line line (record { hall = written_hall header hall; line = by_line.number }) (row_said said) (by_line.text
+          ∙ ap (λ (hall : Option ℕ). row_bytes (record { hall = hall; line = by_line.number }) (row_said said)) (sym same));
       hall = omega (arith, c.if-hall-halls.false, c.halls.ensures.count);
       few = omega (arith, c.if-hall-halls.false, c.halls.ensures.most);
       range = by_line.range;

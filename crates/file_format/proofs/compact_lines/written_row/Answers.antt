@@ -13,7 +13,10 @@ returns c =
     let by_line : IsSaidBy line said = rw c.in-Some.is at c.said_row.ensures in
     let alone : said.hall ≡ None = c.is_same.ensures c.if-not-is_same.false in
     let one : IsRowLine line (row_said said) = record {
-      text = row_line line None (row_said said) (by_line.text ∙ ap (λ (hall : Option ℕ). row_bytes hall (row_said said)) alone);
+      number = by_line.number;
+      numbered = by_line.numbered;
+      text = row_line line (record { hall = None; line = by_line.number }) (row_said said) (by_line.text
+          ∙ ap (λ (hall : Option ℕ). row_bytes (record { hall = hall; line = by_line.number }) (row_said said)) alone);
       range = by_line.range;
     } in
     found_shows (λ (row : Row). row ≡ row_said said) (IsRowLine line) c.found.result

@@ -1,0 +1,7 @@
+mod Rows
+mod Places
+mod Filling
+mod Taking
+mod Counting
+mod Ending
+mod Loop

@@ -1,0 +1,26 @@
+use Rattle.std.proofs.Common.{sym, ◌∙◌, subst}
+use Rattle.std.proofs.lemmas.Result.{err_from_is_err_and}
+use Rattle.recorder.specs.declared.row.Row.TheVariants.{Note}
+use Rattle.split_rows.specs.Splits.{HasSplit}
+use Rattle.split_command.proofs.Taking.{answered, taken_by, went}
+use Rattle.split_command.proofs.pieces.PiecesTakesRows.note.Goals as goal
+
+pub returns-in_err-moved : goal.returns-in_err-moved
+returns-in_err-moved g c = λ rows formed h.
+    let p = err_from_is_err_and c.from_residual.result c.from_residual.ensures.1 in
+    let old = c.args.self.now in
+    let row = Note c.args.op c.args.tag in
+    let split = c.note.ensures.row h.parts rows h.pieces c.args.tag formed (subst (HasSplit h.parts rows h.pieces) (sym h.kept) h.keeps) in
+    rw (p.1, p.2) (answered g.W.Write.contents rows old h c.note.new.self row c.note.result c.in_err-moved.field-0.0
+    (sym c.line_answer.ensures ∙ c.in_err-moved.was) split)
+
+pub returns : goal.returns
+returns g c = λ rows formed h.
+    let old = c.args.self.now in
+    let row = Note c.args.op c.args.tag in
+    let moved = c.in_ok-moved.moved in
+    let split = c.note.ensures.row h.parts rows h.pieces c.args.tag formed (subst (HasSplit h.parts rows h.pieces) (sym h.kept) h.keeps) in
+    taken_by g.W.Write.contents rows old h c.a_key_is_in_one_piece.ensures formed row moved c.note-added.new.self c.end_row.new.self
+    c.note-added.result c.note-added.ensures.count c.note-added.ensures.row c.note.new.self c.end_row.result
+    (went g.W.Write.contents rows old h c.note.new.self row c.note.result moved (sym c.line_answer.ensures ∙ c.in_ok-moved.was) split)
+    c.end_row.ensures

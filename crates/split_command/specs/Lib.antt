@@ -1,0 +1,5 @@
+pub mod PieceTexts
+pub mod Files
+pub mod Rows
+pub mod Written
+pub mod Endings
