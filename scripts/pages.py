@@ -21,20 +21,12 @@ import re
 import subprocess
 import sys
 import tempfile
-import xml.etree.ElementTree as tree
+
+from page_elements import Wrong, elements, expect, frame_of, number, points_of, read_page
 
 HERE = os.path.dirname(os.path.abspath(__file__))
 UNRULY = ["</title><script>alert(1)</script>", "]]>", "<!--", "&amp;", "\"'", "\u0000\n\u2028\u202e", "</style><svg onload='x'>", "{{x}}"]
 EDGE = 8  # between a row's middle, and a bar that begins or ends there
-
-
-class Wrong(Exception):
-    """What a page shows otherwise than it is."""
-
-
-def expect(is_so, *what):
-    if not is_so:
-        raise Wrong(" ".join(str(it) for it in what))
 
 
 def run(abd, *words):
@@ -59,33 +51,14 @@ def calls_of(path):
     return calls
 
 
-def elements(root, name, kind=None):
-    return [it for it in root.iter(name) if kind is None or kind in it.get("class", "").split(" ")]
-
-
-def number(it, name):
-    return float(it.get(name))
-
-
 def is_open(bar):
     """Whether a bar has no side below."""
     return bar.find("rect") is None
 
 
-def points_of(line):
-    """The corners of a line, each so far right and so far down."""
-    points = [float(it) for it in line.get("points").split()]
-    return list(zip(points[::2], points[1::2]))
-
-
 def corners(bar):
     """The left, right, top and bottom of a bar."""
-    box = bar.find("rect")
-    if box is not None:
-        left, top = number(box, "x"), number(box, "y")
-        return left, left + number(box, "width"), top, top + number(box, "height")
-    across, down = zip(*points_of(bar.find("polyline")))
-    return min(across), max(across), min(down), max(down)
+    return frame_of(bar.find("polyline") if is_open(bar) else bar.find("rect"))
 
 
 def named(bar):
@@ -297,74 +270,11 @@ def check_whole(text, history, orders):
     check_points(picture, bars, store_order(calls, orders))
 
 
-def check_headings(root):
-    levels = [int(it.tag[1]) for it in root.iter() if re.fullmatch("h[1-6]", it.tag)]
-    expect(levels.count(1) == 1 and levels[0] == 1, "title among", levels)
-    expect(all(below <= above + 1 for above, below in zip(levels, levels[1:])), "headings", levels)
-
-
-def on_one_line(text):
-    """The text as an attribute has it: XML reads each end of a line there as a blank."""
-    return re.sub(r"\s", " ", text)
-
-
-def check_boxes(root):
-    """Each box that scrolls is a region with a name and can have the focus; a picture's and a table's say on which keys the calls are."""
-    boxes = {kind: elements(root, "div", kind) for kind in ("picture", "rows", "messages")}
-    for it in sum(boxes.values(), []):
-        expect(it.get("role") == "region" and it.get("aria-label") and it.get("tabindex") == "0", "box", it.attrib)
-    for it in boxes["picture"]:
-        expect(it.get("aria-label") == on_one_line(it.findall("svg")[-1].find("title").text), "name of a picture", it.get("aria-label"))
-    for it in boxes["rows"]:
-        words = on_one_line(it.find("table").find("caption").text)
-        expect(it.get("aria-label") == "Table of the" + words.removeprefix("The"), "name of a table", it.get("aria-label"))
-
-
-def check_tables(root):
-    """Each table has a caption, headings of its columns, and in each row below a heading of the row."""
-    for table in root.iter("table"):
-        expect(table[0].tag == "caption" and table[0].text, "caption of", [it.tag for it in table])
-        first, *rows = table.iter("tr")
-        expect(all(it.tag == "th" and it.get("scope") == "col" for it in first), "headings of columns", [it.attrib for it in first])
-        for row in rows:
-            scopes = [it.get("scope") for it in row if it.tag == "th"]
-            expect(row[0].tag == "th" and scopes == ["row"], "heading of a row", [it.tag for it in row])
-
-
 def check_title(root, history):
     """The title and the first heading are the file's name, and how many of its keys are refused, if one is."""
     refused, count = re.match(r"Keys refused: (\d+) of (\d+)", elements(root, "p", "sum")[0].text).groups()
     words = history + (f": {refused} of {count} keys refused" if int(refused) else "")
     expect(next(root.iter("title")).text == words == next(root.iter("h1")).text, "title", next(root.iter("h1")).text, "and not", words)
-
-
-def check_styles(root):
-    """What a browser may not know kills no rule but its own: all selectors of a rule need it, or none."""
-    for style in root.iter("style"):
-        for rule in re.findall(r"([^{};]*)\{", style.text or ""):
-            selectors = re.split(r",(?![^(]*\))", rule)
-            for word in (":has(", "::details-content", ":is(", ":where("):
-                expect(len({word in it for it in selectors}) == 1, "selectors", rule)
-
-
-def read_page(text):
-    """The page's elements; none of them can run or fetch something."""
-    first, _, rest = text.partition("\n")
-    expect(first == "<!DOCTYPE html>", "first line", first)
-    root = tree.fromstring(rest)
-    for it in root.iter():
-        it.tag = it.tag.rpartition("}")[2]
-        expect(it.tag not in ("script", "link", "iframe", "object", "img", "image", "use"), "element", it.tag)
-        expect(not any(name.startswith("on") or name in ("src", "style") for name in it.attrib), "attributes", it.attrib)
-    places = [it.get("id") for it in root.iter() if it.get("id")]
-    expect(len(places) == len(set(places)), "places", places)
-    for it in root.iter("a"):
-        expect(it.get("href")[1:] in places, "link", it.get("href"))
-    check_headings(root)
-    check_styles(root)
-    check_tables(root)
-    check_boxes(root)
-    return root
 
 
 def check_page(text, history, orders):
