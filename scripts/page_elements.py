@@ -103,7 +103,7 @@ def check_styles(root):
                 expect(len({word in it for it in selectors}) == 1, "selectors", rule)
 
 
-def read_page(text):
+def read_elements(text):
     """The page's elements; none of them can run or fetch something."""
     first, _, rest = text.partition("\n")
     expect(first == "<!DOCTYPE html>", "first line", first)

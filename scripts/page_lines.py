@@ -4,7 +4,8 @@ crates/abd/rows/pages tells how. An element of which nothing is known here is a 
 
 from typing import NamedTuple
 
-from page_elements import elements, expect, read_page, words
+from page_elements import elements, expect, words
+from page_strips import read_page
 from picture_lines import say_picture
 
 VERDICTS = ("yes", "no", "undecided")

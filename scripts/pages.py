@@ -10,8 +10,9 @@ Of each key it compares the calls, their clients and columns, the rows where the
 all keys together (`--whole`), whose one order it makes of the keys' orders, and on the page of a script, whose messages it compares with
 the trace. By values it compares the points of an atomic key with the order that `abd justify --by values` writes, which has to be one, and
 the red calls of any other with those that `abd decide` names. A text stays a text, no element is a script, each link has its place on the
-page, and a page has one title and leaves out no level of headings. Boxes that scroll have a role, a name and the focus, and tables a caption
-and headings of columns and of rows. The first heading says how many keys are refused.
+page, and a page has one title and leaves out no level of headings. On paper each row of a picture that is cut stands in one strip. Boxes
+that scroll have a role, a name and the focus, and tables a caption and headings of columns and of rows. The first heading says how many
+keys are refused.
 """
 
 import json
@@ -22,7 +23,8 @@ import subprocess
 import sys
 import tempfile
 
-from page_elements import Wrong, elements, expect, frame_of, number, points_of, read_page
+from page_elements import Wrong, elements, expect, frame_of, number, points_of
+from page_strips import read_page
 
 HERE = os.path.dirname(os.path.abspath(__file__))
 UNRULY = ["</title><script>alert(1)</script>", "]]>", "<!--", "&amp;", "\"'", "\u0000\n\u2028\u202e", "</style><svg onload='x'>", "{{x}}"]

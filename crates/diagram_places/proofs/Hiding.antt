@@ -1,18 +1,12 @@
 -- A curtain begins where its row ends.
-use Rattle.std.proofs.Common.{ℕ, suc, ◌<◌, ◌≤◌, ◌+◌, ◌*◌, ◌≡◌, min, ap, arith}
+use Rattle.std.proofs.Common.{ℕ, suc, ◌<◌, ◌≤◌, ◌+◌, ◌*◌, ◌≡◌, ap, arith}
 use Rattle.std.proofs.Math.Nat.{mul-le-mul_right, suc-mul}
 use Rattle.labels.specs.Places.{farthest}
-use Rattle.labels.proofs.Standing.{one_step, stays_beside}
+use Rattle.labels.proofs.Standing.{one_step, stays_no_farther}
 use Rattle.message_scenes.specs.declared.scene.MessageScene.{MessageScene}
 use Rattle.diagram_places.specs.declared.sizes.TheConstants.{BOTTOM, CURTAIN_TOP, ROW, ROW_TOP}
 use Rattle.diagram_places.specs.Frames.{HidesRowsAfter}
 use Rattle.diagram_places.specs.Layout.{rows_of}
-
--- the nearer of two places stays the nearer
-pub kept : (a b far : ℕ) → a ≤ b → min a far ≤ min b far
-kept a b far less =
-    let beside = stays_beside a b 0 far (omega (arith, less)) in
-    omega (arith, beside)
 
 -- a row up to that of the curtain ends above it
 shown : (row other : ℕ) → other ≤ row → ROW_TOP + (other + 1) * ROW ≤ CURTAIN_TOP + row * ROW
@@ -36,7 +30,7 @@ ended rows other less =
 
 pub hides : (scene : MessageScene) (row : ℕ) → HidesRowsAfter scene row
 hides scene row = record {
-  shows = λ other less. kept (ROW_TOP + (other + 1) * ROW) (CURTAIN_TOP + row * ROW) farthest (shown row other less);
-  hides = λ other less. kept (CURTAIN_TOP + row * ROW) (ROW_TOP + other * ROW) farthest (hidden row other less);
-  whole = λ other less. kept (ROW_TOP + (other + 1) * ROW) (BOTTOM + rows_of scene * ROW) farthest (ended (rows_of scene) other less);
+  shows = λ other less. stays_no_farther (ROW_TOP + (other + 1) * ROW) (CURTAIN_TOP + row * ROW) farthest (shown row other less);
+  hides = λ other less. stays_no_farther (CURTAIN_TOP + row * ROW) (ROW_TOP + other * ROW) farthest (hidden row other less);
+  whole = λ other less. stays_no_farther (ROW_TOP + (other + 1) * ROW) (BOTTOM + rows_of scene * ROW) farthest (ended (rows_of scene) other less);
 }

@@ -1,4 +1,3 @@
 pub mod Counts
 mod Readable
 mod Hiding
-mod Cutting

@@ -1,5 +1,5 @@
 //! Laws of places, each the contract of a function that does nothing.
-ghost use Rattle.std.specs.Prelude.{ℕ, ◌≡◌, ◌<◌, Option};
+ghost use Rattle.std.specs.Prelude.{ℕ, ◌≡◌, ◌<◌};
 ghost use Rattle.script_runs.specs.declared.command.Script.{Script};
 ghost use Rattle.world_steps.specs.declared.system.System.{System};
 ghost use Rattle.message_scenes.specs.Scenes.{IsSceneOf};
@@ -10,8 +10,7 @@ ghost use Rattle.diagram_places.specs.declared.sizes.TheConstants.{CLIENT, COLUM
 ghost use Rattle.diagram_places.specs.Edges.{HasClientEdges, HasReplicaEdges};
 ghost use Rattle.diagram_places.specs.Frames.{HidesRowsAfter};
 ghost use Rattle.diagram_places.specs.Layout.{HasClientsInOrder, HasColumns, across, client_x};
-ghost use Rattle.diagram_places.specs.Layout.{down, replica_x, rows_of};
-ghost use Rattle.diagram_places.specs.Strips.{IsShownBetween, StandsOnce};
+ghost use Rattle.diagram_places.specs.Layout.{down, replica_x};
 ghost use Rattle.diagram_places.specs.Ways.{GoesFromRowToRow};
 
 /// The scene of a script's run has its clients in order, as a diagram needs it.
@@ -59,15 +58,4 @@ pub fn columns_go_right()
 pub fn edges_are_near_their_lifelines()
     ensures clients { (scene : MessageScene) (name : ℕ) → HasClientEdges scene name }
     ensures replicas { (scene : MessageScene) (number : ℕ) → HasReplicaEdges scene number }
-{}
-
-/// A row stands in one strip of its diagram, whole, and in no other.
-pub fn each_row_stands_in_one_strip()
-    ensures { (scene : MessageScene) (row : ℕ) → row < rows_of scene → StandsOnce scene row }
-{}
-
-/// What stands from one row to another, as a bar or an arrow, is shown by the strip of each row
-/// between them.
-pub fn strips_show_what_crosses_them()
-    ensures { (begins : ℕ) (ends : Option ℕ) → IsShownBetween begins ends }
 {}

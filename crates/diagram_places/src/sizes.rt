@@ -146,8 +146,5 @@ pub const HEAD_TIP: u64 = 8;
 
 pub const HEAD_MIDDLE: u64 = 4;
 
-/// On paper a diagram is cut into strips of so many rows.
-pub const STRIP_ROWS: usize = 32;
-
 /// A diagram of more columns isn't cut: its texts would be too small on A4, or run into one another.
 pub const MOST_COLUMNS: usize = 10;

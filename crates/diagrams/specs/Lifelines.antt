@@ -1,7 +1,8 @@
 -- The lifelines of a diagram: one for each client, and one for each replica.
-use Rattle.std.specs.Prelude.{ℕ, zero, suc, nat_lt, if◌then◌else◌, List}
+use Rattle.std.specs.Prelude.{ℕ, nat_lt, if◌then◌else◌, List}
 use Rattle.markup.specs.Markup.{Markup, nothing, both, each}
 use Rattle.sentences.specs.Words.{numbered}
+use Rattle.labels.specs.Each.{each_below}
 use Rattle.labels.specs.Labels.{label_markup, line_markup}
 use Rattle.message_scenes.specs.declared.scene.MessageScene.{MessageScene}
 use Rattle.diagram_places.specs.declared.sizes.TheConstants.{CLIENT, FOOT_BASE, LETTERS, LONG}
@@ -9,11 +10,6 @@ use Rattle.diagram_places.specs.declared.sizes.TheConstants.{MOMENT, NAMES_BASE,
 use Rattle.diagram_places.specs.Layout.{client_x, down, replica_x, replicas_of, rows_of}
 use Rattle.diagrams.specs.declared.style.TheConstants.{CLIENT_WORD, LIFELINE, WHO}
 use Rattle.diagram_words.specs.Words.{replica_words}
-
--- what is made of each number below a count, one after another
-abbrev pub each_below : (ℕ → Markup) → ℕ → Markup
-each_below f zero = nothing
-each_below f (suc n) = both (each_below f n) (f n)
 
 -- the name above a lifeline
 abbrev pub name_above : ℕ → List ℕ → Markup

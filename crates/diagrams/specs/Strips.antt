@@ -1,13 +1,15 @@
 -- The strips of a diagram on paper: each has the names above its lifelines, and what is seen in its
 -- rows.
 use Rattle.std.specs.Prelude.{ℕ, ◌+◌, ◌-◌, ◌*◌, Some, nat_le, if◌then◌else◌, List, [], ◌∷◌, length}
-use Rattle.markup.specs.Markup.{Markup, NamedText, all_tenths_text, nothing, element, both, each}
+use Rattle.markup.specs.Markup.{Markup, NamedText, nothing, element, both, each}
 use Rattle.markup.specs.Texts.{of_class}
 use Rattle.markup.specs.declared.names.AttributeName.TheVariants as name
 use Rattle.markup.specs.declared.names.Element.TheVariants as tag
 use Rattle.sentences.specs.Words.{numbered}
-use Rattle.labels.specs.Each.{each_from}
-use Rattle.labels.specs.Labels.{number_of, words_of}
+use Rattle.labels.specs.Each.{each_below, each_from}
+use Rattle.labels.specs.Images.{view_attributes}
+use Rattle.labels.specs.Labels.{words_of}
+use Rattle.labels.specs.Strips.{shows_row, shows_some, strip_bottom, strip_top, strips_of}
 use Rattle.message_scenes.specs.declared.arrows.Arrow.{Arrow}
 use Rattle.message_scenes.specs.declared.calls.CallBar.{CallBar}
 use Rattle.message_scenes.specs.declared.hearings.Hearing.{Hearing}
@@ -18,20 +20,14 @@ use Rattle.message_scenes.specs.declared.scene.StepRow.{StepRow}
 use Rattle.diagram_places.specs.declared.sizes.TheConstants.{MOST_COLUMNS, TOP}
 use Rattle.diagram_places.specs.Frames.{width_of}
 use Rattle.diagram_places.specs.Layout.{replicas_of}
-use Rattle.diagram_places.specs.Strips.{last_row_of_arrow, last_row_of_call, shows_row, shows_some}
-use Rattle.diagram_places.specs.Strips.{strip_bottom, strip_top, strips_of}
+use Rattle.diagram_places.specs.Strips.{cut_rows, last_row_of_arrow, last_row_of_call}
 use Rattle.diagrams.specs.declared.style.TheConstants.{STRIPS, STRIP_COLUMNS}
 use Rattle.diagrams.specs.Arrows.{arrow_shape}
 use Rattle.diagrams.specs.Calls.{bar_shape, call_texts}
 use Rattle.diagrams.specs.Hearings.{hearing_text}
-use Rattle.diagrams.specs.Lifelines.{each_below, lifelines}
+use Rattle.diagrams.specs.Lifelines.{lifelines}
 use Rattle.diagrams.specs.Replicas.{down_markup, holding_markup}
 use Rattle.diagrams.specs.Rows.{reason_markup, row_markup}
-
--- the attributes of a view that is so wide, from there down so high
-abbrev pub view_attributes : ℕ → ℕ → ℕ → List NamedText
-view_attributes width top height = number_of name.Width width ∷ number_of name.Height height
-    ∷ words_of name.ViewBox (all_tenths_text (0 ∷ top * 10 ∷ width * 10 ∷ height * 10 ∷ [])) ∷ []
 
 module _ (scene : MessageScene) where
   -- how many columns there are
@@ -101,8 +97,8 @@ module _ (scene : MessageScene) where
 
     -- from where to where it goes
     abbrev pub rows_view_attributes : List NamedText
-    rows_view_attributes = view_attributes (width_of scene) (strip_top scene strip)
-        (strip_bottom scene strip - strip_top scene strip)
+    rows_view_attributes = view_attributes (width_of scene) (strip_top (cut_rows scene) strip)
+        (strip_bottom (cut_rows scene) strip - strip_top (cut_rows scene) strip)
 
     -- the rows of a strip
     abbrev pub rows_view : Markup
@@ -119,5 +115,5 @@ module _ (scene : MessageScene) where
   -- the strips, one after another; none, if there are too many columns
   abbrev pub strips : Markup
   strips = if nat_le columns_of MOST_COLUMNS
-      then element tag.Div (of_class STRIPS.now) (each_below strip_markup (strips_of scene))
+      then element tag.Div (of_class STRIPS.now) (each_below strip_markup (strips_of (cut_rows scene)))
       else nothing

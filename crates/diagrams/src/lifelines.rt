@@ -2,9 +2,9 @@
 ghost use Rattle.std.specs.Prelude.{◌≡◌, ◌<◌, ◌++◌, OnOk};
 ghost use Rattle.markup.specs.Markup.{rendered};
 ghost use Rattle.tag.specs.Limits.{replica_limit};
+ghost use Rattle.labels.specs.Each.{each_below};
 ghost use Rattle.diagram_places.specs.Layout.{HasClientsInOrder, replicas_of};
-ghost use Rattle.diagrams.specs.Lifelines.{client_lifeline, each_below, lifeline, lifelines};
-ghost use Rattle.diagrams.specs.Lifelines.{replica_lifeline};
+ghost use Rattle.diagrams.specs.Lifelines.{client_lifeline, lifeline, lifelines, replica_lifeline};
 
 use crate::style::{CLIENT_WORD, LIFELINE, WHO};
 use diagram_places::sizes::{CLIENT, FOOT_BASE, LETTERS, LONG, MOMENT, NAMES_BASE, REPLICA, TOP};

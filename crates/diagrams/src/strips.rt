@@ -3,14 +3,14 @@
 ghost use Rattle.std.specs.Prelude.{◌≡◌, ◌<◌, ◌++◌, OnOk};
 ghost use Rattle.markup.specs.Markup.{opening_tag, rendered};
 ghost use Rattle.markup.specs.declared.names.Element.TheVariants as tag;
-ghost use Rattle.labels.specs.Places.{IsNear};
+ghost use Rattle.labels.specs.Each.{each_below};
+ghost use Rattle.labels.specs.Strips.{strips_of};
 ghost use Rattle.diagram_places.specs.Layout.{HasClientsInOrder};
-ghost use Rattle.diagram_places.specs.Strips.{strips_of};
-ghost use Rattle.diagrams.specs.Lifelines.{each_below};
+ghost use Rattle.diagram_places.specs.Strips.{cut_rows};
 ghost use Rattle.diagrams.specs.Strips.{above_in, arrow_in, bar_in, below_in, call_texts_in};
 ghost use Rattle.diagrams.specs.Strips.{columns_of, down_in, hearing_in, holding_in, names_view};
 ghost use Rattle.diagrams.specs.Strips.{inside_strip, reason_in, row_in, rows_view, rows_view_attributes};
-ghost use Rattle.diagrams.specs.Strips.{strip_attributes, strip_markup, strips, view_attributes};
+ghost use Rattle.diagrams.specs.Strips.{strip_attributes, strip_markup, strips};
 
 use crate::arrows::append_arrow_shape;
 use crate::bars::append_bar_shape;
@@ -21,11 +21,10 @@ use crate::rows::{Reasons, Rows};
 use crate::style::{STRIP_COLUMNS, STRIPS};
 use crate::texts::CallTexts;
 use diagram_places::sizes::{MOST_COLUMNS, TOP};
-use diagram_places::{
-    last_row_of_arrow, last_row_of_call, replicas_of, shows_row, shows_some, strip_bottom,
-    strip_top, strips_of, width_of,
+use diagram_places::{cut_rows, last_row_of_arrow, last_row_of_call, replicas_of, width_of};
+use labels::{
+    IndexedShape, Shape, append_each, append_each_indexed, open_view, shows_row, shows_some,
 };
-use labels::{IndexedShape, Shape, append_each, append_each_indexed};
 use markup::{Attribute, AttributeName, Element, append_closing, append_opening, open_of_class};
 use message_scenes::{Arrow, CallBar, DownTime, Hearing, Holding, MessageScene, StepRow};
 use std::alloc::Global;
@@ -236,25 +235,6 @@ impl Shape for StripHoldings<'_> {
     }
 }
 
-/// Opens a view that is so wide, from there down so high.
-fn open_view(page: &mut Vec<u8>, width: u64, top: u64, height: u64) -> Result<(), Memory>
-    requires width { IsNear width }
-    requires top { IsNear top }
-    requires height { IsNear height }
-    ensures { OnOk result (page.new.items
-        ≡ page.old.items ++ opening_tag tag.Svg (view_attributes width top height)) }
-{
-    let attributes = [
-        Attribute::Number(AttributeName::Width, width),
-        Attribute::Number(AttributeName::Height, height),
-        Attribute::AllTenths(
-            AttributeName::ViewBox,
-            &[0, top * 10, width * 10, height * 10],
-        ),
-    ];
-    append_opening(page, Element::Svg, &attributes)
-}
-
 /// How many columns there are.
 fn columns_of(scene: &MessageScene) -> usize
     ensures { result ≡ columns_of scene.now }
@@ -312,19 +292,20 @@ impl Strip<'_> {
 
     /// Opens the view of its rows.
     fn open_rows(&self, page: &mut Vec<u8>) -> Result<(), Memory>
-        requires { self.now.strip < strips_of self.now.scene.now }
+        requires { self.now.strip < strips_of (cut_rows self.now.scene.now) }
         ensures { OnOk result (page.new.items ≡ page.old.items
             ++ opening_tag tag.Svg (rows_view_attributes self.now.scene.now self.now.strip)) }
     {
         let Strip { scene, strip, .. } = *self;
-        let (top, bottom) = (strip_top(scene, strip), strip_bottom(scene, strip));
+        let rows = cut_rows(scene);
+        let (top, bottom) = (rows.top(strip), rows.bottom(strip));
         open_view(page, width_of(scene), top, bottom.saturating_sub(top))
     }
 
     /// Adds its rows.
     fn append_rows(&self, page: &mut Vec<u8>) -> Result<(), Memory>
         requires order { HasClientsInOrder self.now.scene.now }
-        requires there { self.now.strip < strips_of self.now.scene.now }
+        requires there { self.now.strip < strips_of (cut_rows self.now.scene.now) }
         ensures { OnOk result (page.new.items
             ≡ page.old.items ++ rendered (rows_view self.now.scene.now self.now.strip)) }
     {
@@ -337,7 +318,7 @@ impl Strip<'_> {
     /// Adds what stands in the strip.
     fn append_inside(&self, page: &mut Vec<u8>) -> Result<(), Memory>
         requires order { HasClientsInOrder self.now.scene.now }
-        requires there { self.now.strip < strips_of self.now.scene.now }
+        requires there { self.now.strip < strips_of (cut_rows self.now.scene.now) }
         ensures { OnOk result (page.new.items
             ≡ page.old.items ++ rendered (inside_strip self.now.scene.now self.now.strip)) }
     {
@@ -348,7 +329,7 @@ impl Strip<'_> {
     /// Adds the strip.
     fn append(&self, page: &mut Vec<u8>) -> Result<(), Memory>
         requires order { HasClientsInOrder self.now.scene.now }
-        requires there { self.now.strip < strips_of self.now.scene.now }
+        requires there { self.now.strip < strips_of (cut_rows self.now.scene.now) }
         ensures { OnOk result (page.new.items
             ≡ page.old.items ++ rendered (strip_markup self.now.scene.now self.now.strip)) }
     {
@@ -362,9 +343,9 @@ impl Strip<'_> {
 fn append_each_strip(alloc: Global, page: &mut Vec<u8>, scene: &MessageScene) -> Result<(), Memory>
     requires { HasClientsInOrder scene.now }
     ensures { OnOk result (page.new.items ≡ page.old.items
-        ++ rendered (each_below (strip_markup scene.now) (strips_of scene.now))) }
+        ++ rendered (each_below (strip_markup scene.now) (strips_of (cut_rows scene.now)))) }
 {
-    for strip in 0..strips_of(scene) {
+    for strip in 0..cut_rows(scene).strips() {
         Strip {
             alloc,
             scene,

@@ -1,4 +1,5 @@
 pub mod Counts
+pub mod Cutting
 pub mod Rendering
 mod Fitting
 pub mod ShownWords

@@ -1,8 +1,8 @@
--- The bytes of what is made of each item of a list, or of each item and its index.
-use Rattle.std.proofs.Common.{ℕ, ◌≡◌, ◌<◌, ◌≤◌, ◌+◌, List, [], ◌++◌, length, get_or, drop, sym, ap, ◌∙◌, append-nil, append_assoc}
+-- The bytes of what is made of each item of a list, of each item and its index, or of each number below a count.
+use Rattle.std.proofs.Common.{ℕ, suc, ◌≡◌, ◌<◌, ◌≤◌, ◌+◌, List, [], ◌++◌, length, get_or, drop, refl, sym, ap, subst, ◌∙◌, append-nil, append_assoc, arith}
 use Rattle.std.proofs.lemmas.List.{at_drop_more, at_drop_all}
 use Rattle.markup.specs.Markup.{Markup, each, rendered}
-use Rattle.labels.specs.Each.{each_from}
+use Rattle.labels.specs.Each.{each_below, each_from}
 
 module _ {X : Type 0} where
   -- one item on
@@ -58,3 +58,22 @@ module _ {X : Type 0} where
   pub each_from_last : (f : ℕ → X → Markup) (xs : List X) (i : ℕ) (page all : List ℕ) → length xs ≤ i
       → page ++ rendered (each_from f i (drop i xs)) ≡ all → page ≡ all
   each_from_last f xs i page all past so_far = after_all page (rendered (each_from f i (drop i xs))) all (each_from_end f xs i past) so_far
+
+module _ (f : ℕ → Markup) where
+  each_below_more : (n : ℕ) → rendered (each_below f (n + 1)) ≡ rendered (each_below f n) ++ rendered (f n)
+  unfolding rendered
+  each_below_more n =
+      let one : suc n ≡ n + 1 = omega arith in
+      subst (λ (m : ℕ). rendered (each_below f m) ≡ rendered (each_below f n) ++ rendered (f n)) one refl
+
+  -- with no number, and with one number more
+  pub each_below_none : (page : List ℕ) → page ≡ page ++ rendered (each_below f 0)
+  unfolding rendered
+  each_below_none page = sym (append-nil page)
+
+  pub each_below_step : (n : ℕ) (old page next : List ℕ) → page ≡ old ++ rendered (each_below f n) → next ≡ page ++ rendered (f n)
+      → next ≡ old ++ rendered (each_below f (n + 1))
+  each_below_step n old page next so_far added =
+      added
+      ∙ (ap (λ (s : List ℕ). s ++ rendered (f n)) so_far
+      ∙ (append_assoc old (rendered (each_below f n)) (rendered (f n)) ∙ ap (λ (s : List ℕ). old ++ s) (sym (each_below_more n))))

@@ -28,6 +28,12 @@ stays_beside x y k far le = elim (cases_lt y far) [
   | inr h ↦ let at : min y far ≡ far = min-eq_right h in omega (arith, at, min-le_right x far)
 ]
 
+-- the nearer of two places stays the nearer
+pub stays_no_farther : (x y far : ℕ) → x ≤ y → min x far ≤ min y far
+stays_no_farther x y far le =
+    let beside = stays_beside x y 0 far (omega (arith, le)) in
+    omega (arith, beside)
+
 -- a step more is a step farther
 pub one_step : (i j step : ℕ) → i < j → i * step + step ≤ j * step
 one_step i j step less =

@@ -1,4 +1,4 @@
--- The element of a picture.
+-- The element of a picture, and that of a view of what it shows.
 use Rattle.std.specs.Prelude.{ℕ, ◌*◌, List, [], ◌∷◌}
 use Rattle.markup.specs.Markup.{NamedText, all_tenths_text}
 use Rattle.markup.specs.declared.names.AttributeName.TheVariants as name
@@ -10,3 +10,8 @@ abbrev pub image_attributes : ℕ → ℕ → List NamedText
 image_attributes width height =
     words_of name.Role IMAGE.now ∷ number_of name.Width width ∷ number_of name.Height height
     ∷ words_of name.ViewBox (all_tenths_text (0 ∷ 0 ∷ width * 10 ∷ height * 10 ∷ [])) ∷ []
+
+-- the attributes of a view that is so wide, from there down so high
+abbrev pub view_attributes : ℕ → ℕ → ℕ → List NamedText
+view_attributes width top height = number_of name.Width width ∷ number_of name.Height height
+    ∷ words_of name.ViewBox (all_tenths_text (0 ∷ top * 10 ∷ width * 10 ∷ height * 10 ∷ [])) ∷ []

@@ -5,3 +5,4 @@ pub mod Places
 pub mod Images
 pub mod Samples
 pub mod Each
+pub mod Strips

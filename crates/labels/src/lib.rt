@@ -3,7 +3,8 @@
 //!
 //! Each function adds exactly the bytes of a tree of elements that a definition names. What a label
 //! shows is cut to the room that it has. A caller says once, as a `Shape`, what is drawn of an item; then
-//! `append_each` draws the items of a list, one after another. If a function fails, a beginning of
+//! `append_each` draws the items of a list, one after another. Rows are cut into strips on paper
+//! (`CutRows`). If a function fails, a beginning of
 //! what it was to add may have been added. Only the `Vec` and the words of a label allocate.
 //!
 //! ```text
@@ -30,14 +31,16 @@ pub mod laws;
 mod places;
 mod samples;
 mod shapes;
+mod strips;
 mod style;
 mod texts;
 
-pub use images::open_image;
+pub use images::{open_image, open_view};
 pub use labels::{
     Spot, Way, append_label, append_line, append_numbered, append_polyline, append_title,
 };
 pub use places::{Frame, pixels};
 pub use samples::append_sample;
 pub use shapes::{IndexedShape, Shape, append_each, append_each_indexed};
+pub use strips::{CutRows, STRIP_ROWS, shows_row, shows_some};
 pub use texts::text_of;

@@ -9,7 +9,7 @@ use Rattle.tag.specs.declared.numbers.OpId.{OpId}
 use Rattle.recorder.specs.declared.part.Call.{Call}
 use Rattle.recorder.specs.Parts.{IsSequence}
 use Rattle.certificate_check.specs.Places.{HasOpAt}
-use Rattle.pictures.specs.Pictures.{call_of}
+use Rattle.pictures.specs.Bars.{call_of}
 
 module _ {X : Type 0} (p : X → Bool) where
   -- the first element that passes is that at an index where one passes and none before

@@ -5,3 +5,4 @@ pub mod Rows
 mod Readable
 mod Naming
 mod Heads
+mod Crossing

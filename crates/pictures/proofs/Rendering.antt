@@ -6,6 +6,7 @@ use Rattle.scenes.specs.declared.scene.Scene.{Scene}
 use Rattle.labels.proofs.Rendering.{after_all, after_one}
 use Rattle.markup.specs.Markup.{Markup, both, rendered}
 use Rattle.pictures.specs.Dots.{corner, corners}
+use Rattle.pictures.specs.Marks.{corner_in, corners_in}
 
 module _ (scene : Scene) (dots : List Dot) where
   -- one dot on, and at the end
@@ -25,6 +26,19 @@ module _ (scene : Scene) (dots : List Dot) where
 
   pub corners_last : (i : ℕ) (done all : List ℕ) → length dots ≤ i → done ++ corners scene i (drop i dots) ≡ all → done ≡ all
   corners_last i done all past so_far = after_all done (corners scene i (drop i dots)) all (corners_end i past) so_far
+
+-- the same of a strip: with one dot more, and with all
+module _ (scene : Scene) (strip : ℕ) (dots : List Dot) where
+  pub corners_in_step : (i : ℕ) (d : Dot) (done next all : List ℕ) → i < length dots → done ++ corners_in scene strip i (drop i dots) ≡ all
+      → next ≡ done ++ corner_in scene strip i (get_or dots i d) → next ++ corners_in scene strip (i + 1) (drop (i + 1) dots) ≡ all
+  corners_in_step i d done next all within so_far added =
+      after_one done next (corner_in scene strip i (get_or dots i d)) (corners_in scene strip i (drop i dots))
+      (corners_in scene strip (i + 1) (drop (i + 1) dots)) all (at_drop_more (λ (ds : List Dot). corners_in scene strip i ds) dots i d within)
+      so_far added
+
+  pub corners_in_last : (i : ℕ) (done all : List ℕ) → length dots ≤ i → done ++ corners_in scene strip i (drop i dots) ≡ all → done ≡ all
+  corners_in_last i done all past so_far =
+      after_all done (corners_in scene strip i (drop i dots)) all (at_drop_all (λ (ds : List Dot). corners_in scene strip i ds) dots i past) so_far
 
 -- three pieces one after another
 regroup : (first one two three : List ℕ) → ((first ++ one) ++ two) ++ three ≡ first ++ (one ++ (two ++ three))

@@ -155,6 +155,22 @@ module _ (scene : Scene) (ordered : IsInOrder scene) where
       (λ d is. below d.place q (let h = from_below d.place p is in omega (arith, h, le))) scene.dots.items in
       omega (arith, ticks, dots)
 
+  -- a later place is in no row above that of an earlier one
+  pub places_rise : (p q : ℕ) → p ≤ q → row_of_place scene p ≤ row_of_place scene q
+  places_rise p q le = omega (arith, before_more p q le, gaps_more p q le)
+
+  -- a tick stands within the rows up to its place or a later one
+  pub tick_up_to : (i p q : ℕ) → slice_get scene.ticks.items i ≡ Some p → p ≤ q → row_of_place scene p < rows_up_to scene q
+  tick_up_to i p q at_i le =
+      let ticks = count_more (λ (t : ℕ). nat_lt t p) (λ (t : ℕ). nat_le t q) (λ t is. up_to t q (let h = from_below t p is in omega (arith, h, le)))
+      scene.ticks.items i p at_i (not_below p p (omega arith)) (up_to p q le)
+      in
+      let dots = count_less (λ (d : Dot). nat_lt d.place p) (λ (d : Dot). nat_le d.place q)
+      (λ d is. up_to d.place q (let h = from_below d.place p is in omega (arith, h, le))) scene.dots.items
+      in
+      let gaps = gaps_more p q le in
+      omega (arith, ticks, dots, gaps)
+
   -- a tick stands above the row of a later place
   pub tick_above : (i p q : ℕ) → slice_get scene.ticks.items i ≡ Some p → p < q → row_of_place scene p < row_of_place scene q
   tick_above i p q at_i rise =
@@ -233,6 +249,21 @@ module _ (scene : Scene) (ordered : IsInOrder scene) where
       let within = slice_get_within scene.dots.items j d at_j in
       let gaps = count_by-le-length (λ (g : Gap). nat_le g.place d.place) scene.gaps.items in
       omega (arith, ticks, within, gaps)
+
+  pub tick_within_rows : (i p : ℕ) → slice_get scene.ticks.items i ≡ Some p → row_of_place scene p < rows_of scene
+  tick_within_rows i p at_i =
+      let fewer = count_more (λ (t : ℕ). nat_lt t p) (λ (t : ℕ). true) (λ t is. refl) scene.ticks.items i p at_i (not_below p p (omega arith)) refl in
+      let ticks = count_by-le-length (λ (t : ℕ). true) scene.ticks.items in
+      let dots = count_by-le-length (λ (d : Dot). nat_lt d.place p) scene.dots.items in
+      let gaps = count_by-le-length (λ (g : Gap). nat_le g.place p) scene.gaps.items in
+      omega (arith, fewer, ticks, dots, gaps)
+
+  pub gap_within_rows : (i : ℕ) (g : Gap) → slice_get scene.gaps.items i ≡ Some g → row_of_gap scene i g.place < rows_of scene
+  gap_within_rows i g at_i =
+      let ticks = count_by-le-length (λ (t : ℕ). nat_lt t g.place) scene.ticks.items in
+      let dots = count_by-le-length (λ (d : Dot). nat_lt d.place g.place) scene.dots.items in
+      let within = slice_get_within scene.gaps.items i g at_i in
+      omega (arith, ticks, dots, within)
 
   tick_above_dot : (i j p : ℕ) (d : Dot) → slice_get scene.ticks.items i ≡ Some p → slice_get scene.dots.items j ≡ Some d → p ≤ d.place
       → row_of_place scene p < row_of_dot scene j d.place

@@ -1,19 +1,19 @@
 -- The arrow between two calls whose precedence an order breaks: from the bar of the one that ended
 -- first, in the row of its end, to above the bar of the other one, and down to its top.
 use Rattle.std.specs.Prelude.{ℕ, ◌+◌, ◌-◌, ◌*◌, List, [], ◌∷◌, Option, Some, None, nat_lt, min, max}
-use Rattle.std.specs.Prelude.{if◌then◌else◌, slice_get}
+use Rattle.std.specs.Prelude.{if◌then◌else◌, length, slice_get}
 use Rattle.markup.specs.Markup.{Markup, both}
 use Rattle.labels.specs.declared.places.Frame.{Frame}
 use Rattle.labels.specs.Labels.{label_markup, polyline}
 use Rattle.scenes.specs.declared.arrows.Arrow.{Arrow}
 use Rattle.scenes.specs.declared.scene.Bar.{Bar}
 use Rattle.scenes.specs.declared.scene.Scene.{Scene}
-use Rattle.pictures.specs.declared.sizes.TheConstants.{ARROW_LEFT, ARROW_RIGHT, HEAD_HEIGHT}
-use Rattle.pictures.specs.declared.sizes.TheConstants.{HEAD_WIDTH, LINE_LETTERS, MIDDLE}
-use Rattle.pictures.specs.declared.sizes.TheConstants.{TEXT_BASE, WORD_MARGIN}
+use Rattle.pictures.specs.declared.sizes.TheConstants.{ARROW_END, ARROW_LEFT, ARROW_RIGHT}
+use Rattle.pictures.specs.declared.sizes.TheConstants.{HEAD_HEIGHT, HEAD_WIDTH, LINE_LETTERS}
+use Rattle.pictures.specs.declared.sizes.TheConstants.{MIDDLE, RIGHT, TEXT_BASE, WORD_MARGIN}
 use Rattle.pictures.specs.declared.style.TheConstants.{ARROW, BEFORE, BEFORE_WORD}
 use Rattle.pictures.specs.Frames.{frame_of}
-use Rattle.pictures.specs.Layout.{down, row_of_place}
+use Rattle.pictures.specs.Layout.{across, down, row_of_place}
 use Rattle.pictures.specs.Texts.{if_any}
 
 module _ (from to : Frame) where
@@ -67,3 +67,8 @@ module _ (scene : Scene) where
   -- the arrow, if there is one
   abbrev pub arrow_markup : Option Arrow → Markup
   arrow_markup arrow = if_any joined arrow
+
+  -- where the picture ends in the column after the last: an arrow's word has more room
+  abbrev pub end_of : Option Arrow → ℕ
+  end_of None = across scene RIGHT (length scene.columns.items)
+  end_of (Some arrow) = across scene ARROW_END (length scene.columns.items)

@@ -9,6 +9,10 @@ pub mod Frames
 pub mod Readable
 pub mod Texts
 pub mod Arrows
+pub mod Bars
+pub mod Cuts
+pub mod Marks
+pub mod Paper
 pub mod Pictures
 pub mod Tables
 pub mod Sheets

@@ -18,7 +18,8 @@ use Rattle.pictures.specs.declared.style.TheConstants.{DOES_HEADING, DONE, DOT, 
 use Rattle.pictures.specs.declared.style.TheConstants.{FAULTY_READ, FAULTY_WRITE, LANE, LEGEND}
 use Rattle.pictures.specs.declared.style.TheConstants.{LINE, LINE_WORD, NOTED, NOTED_HEADING}
 use Rattle.pictures.specs.declared.style.TheConstants.{NOTES, NOTE_HEADING, NOT_ANSWERED, NUMBER}
-use Rattle.pictures.specs.declared.style.TheConstants.{OPEN, OPEN_KEY, PATH, PICTURE, READ}
+use Rattle.pictures.specs.declared.style.TheConstants.{OPEN, OPEN_KEY, PAPER, PAPER_STRIP, PATH}
+use Rattle.pictures.specs.declared.style.TheConstants.{PICTURE, READ}
 use Rattle.pictures.specs.declared.style.TheConstants.{READS, READ_KEY, ROWS, TABLE_OF}
 use Rattle.pictures.specs.declared.style.TheConstants.{TABLE_TITLE, TICK, TITLE}
 use Rattle.pictures.specs.declared.style.TheConstants.{WRITE, WRITES, WRITE_KEY}
@@ -53,7 +54,7 @@ abbrev pub class_names : List (List ℕ)
 class_names = PICTURE.now ∷ LANE.now ∷ CLIENT.now ∷ TICK.now ∷ LINE.now ∷ PATH.now ∷ DOT.now
     ∷ NUMBER.now ∷ READ.now ∷ WRITE.now ∷ FAULTY_READ.now ∷ FAULTY_WRITE.now ∷ OPEN.now
     ∷ DOES.now ∷ NOTED.now ∷ ANSWERS.now ∷ LEGEND.now ∷ CALLS.now ∷ NAMES.now ∷ LINES.now
-    ∷ GAP.now ∷ OMITTED.now ∷ ROWS.now ∷ ARROW.now ∷ BEFORE.now ∷ []
+    ∷ GAP.now ∷ OMITTED.now ∷ ROWS.now ∷ ARROW.now ∷ BEFORE.now ∷ PAPER.now ∷ PAPER_STRIP.now ∷ []
 
 -- what a legend says of the kinds of bars
 abbrev pub legend_words : List (List ℕ)

@@ -18,7 +18,7 @@ use Rattle.pictures.specs.declared.style.TheConstants.{NOTE_HEADING, ROWS, ROW_S
 use Rattle.pictures.specs.declared.style.TheConstants.{TABLE_TITLE}
 use Rattle.pictures.specs.Boxes.{box_attributes, named_calls}
 use Rattle.pictures.specs.Keys.{said_key}
-use Rattle.pictures.specs.Pictures.{call_of, class_of, is_faulty, own_key}
+use Rattle.pictures.specs.Bars.{call_of, class_of, is_faulty, own_key}
 use Rattle.pictures.specs.Texts.{if_any}
 use Rattle.pictures.specs.Words.{action_words, line_words, name_words, note_words}
 use Rattle.pictures.specs.Words.{numbered_words, response_words}

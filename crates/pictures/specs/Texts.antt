@@ -11,6 +11,7 @@ use Rattle.pictures.specs.declared.texts.BarText.{BarText}
 use Rattle.pictures.specs.declared.texts.BarText.TheVariants as bar_text
 use Rattle.pictures.specs.declared.words.Signs.{Signs}
 use Rattle.pictures.specs.Layout.{across, column_of, down, is_shared, room_of, row_of_place}
+use Rattle.pictures.specs.Marks.{place_in}
 use Rattle.pictures.specs.Words.{begin_words, end_words, fitted, note_words, unless}
 
 -- what is made of what there is, if there is any
@@ -64,3 +65,17 @@ module _ (scene : Scene) where
   abbrev pub texts : Bar → Bool → Option ℕ → List ℕ → Call → Markup
   texts bar faulty place name call =
       texts_in (column_of scene bar.lane) bar (signs_of faulty place bar) name call
+
+  -- the texts of a bar in that column that stand in rows of a strip
+  abbrev pub strip_texts_in : ℕ → ℕ → Bar → Signs → List ℕ → Call → Markup
+  strip_texts_in strip column bar signs name call =
+      both (if_any (text_at bar_text.Begin column signs name call)
+      (place_in scene strip (Some bar.begins)))
+      (both (if_any (text_at bar_text.Note column signs name call) (place_in scene strip bar.note))
+      (if_any (text_at bar_text.Answer column signs name call)
+      (place_in scene strip bar.answered)))
+
+  -- the same, in its lane's column
+  abbrev pub strip_texts : ℕ → Bar → Bool → Option ℕ → List ℕ → Call → Markup
+  strip_texts strip bar faulty place name call = strip_texts_in strip (column_of scene bar.lane) bar
+      (signs_of faulty place bar) name call

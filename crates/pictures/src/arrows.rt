@@ -5,13 +5,14 @@ ghost use Rattle.labels.specs.Labels.{polyline};
 ghost use Rattle.labels.specs.Places.{IsNear, IsNearFrame};
 ghost use Rattle.pictures.specs.Layout.{IsInOrder};
 ghost use Rattle.pictures.specs.Arrows.{arrow_corners, arrow_markup, arrow_tip, arrow_word, between};
-ghost use Rattle.pictures.specs.Arrows.{last_row, word_left};
+ghost use Rattle.pictures.specs.Arrows.{end_of, last_row, word_left};
 ghost use Rattle.pictures.specs.declared.style.TheConstants.{ARROW};
 
 use crate::frames::frame_of;
-use crate::layout::{down, row_of_place};
+use crate::layout::{across, down, row_of_place};
 use crate::sizes::{
-    ARROW_LEFT, ARROW_RIGHT, HEAD_HEIGHT, HEAD_WIDTH, LINE_LETTERS, MIDDLE, TEXT_BASE, WORD_MARGIN,
+    ARROW_END, ARROW_LEFT, ARROW_RIGHT, HEAD_HEIGHT, HEAD_WIDTH, LINE_LETTERS, MIDDLE, RIGHT,
+    TEXT_BASE, WORD_MARGIN,
 };
 use crate::style::{ARROW, BEFORE, BEFORE_WORD};
 use labels::{Frame, Spot, append_label, append_polyline};
@@ -143,4 +144,15 @@ pub(crate) fn append_arrow(
         return Ok(());
     };
     append_between(alloc, page, scene, from, to)
+}
+
+/// Where the picture ends in the column after the last.
+pub(crate) fn end_of(scene: &Scene, arrow: Option<Arrow>) -> u64
+    ensures end { result ≡ end_of scene.now arrow }
+    ensures near { IsNear result }
+{
+    match arrow {
+        None => across(scene, RIGHT, scene.columns.len()),
+        Some(_) => across(scene, ARROW_END, scene.columns.len()),
+    }
 }

@@ -3,7 +3,7 @@ ghost use Rattle.std.specs.Prelude.{◌≡◌, ◌++◌, OnOk};
 ghost use Rattle.markup.specs.Markup.{opening_tag, rendered};
 ghost use Rattle.markup.specs.declared.names.Element.TheVariants as tag;
 ghost use Rattle.pictures.specs.Layout.{IsInOrder};
-ghost use Rattle.pictures.specs.Pictures.{bar_attributes, bar_markup, sentence};
+ghost use Rattle.pictures.specs.Bars.{bar_attributes, bar_markup, sentence};
 
 use crate::frames::{append_shape, corner_of};
 use crate::picture::Picture;

@@ -2,6 +2,7 @@
 ghost use Rattle.std.specs.Prelude.{ℕ, ◌≡◌, ◌<◌, ◌≤◌, ◌^◌, ◌⊎◌, ◌++◌, List, [], ◌∷◌, true, Some};
 ghost use Rattle.std.specs.Prelude.{decimal, length, slice_get};
 ghost use Rattle.labels.specs.Places.{farthest};
+ghost use Rattle.labels.specs.Strips.{strip_of};
 ghost use Rattle.labels.specs.Texts.{all_differ, none_is_empty};
 ghost use Rattle.scenes.specs.declared.scene.Bar.{Bar};
 ghost use Rattle.scenes.specs.declared.scene.Dot.{Dot};
@@ -9,11 +10,13 @@ ghost use Rattle.scenes.specs.declared.scene.Scene.{Scene};
 ghost use Rattle.scenes.specs.Columns.{EndsBefore};
 ghost use Rattle.scenes.specs.Scenes.{IsPlaceIn};
 ghost use Rattle.pictures.specs.declared.sizes.TheConstants.{DOT_RADIUS, ROW};
+ghost use Rattle.pictures.specs.Cuts.{HasStrips};
 ghost use Rattle.pictures.specs.Dots.{dot_x, dot_y};
 ghost use Rattle.pictures.specs.Frames.{frame_of};
 ghost use Rattle.pictures.specs.declared.style.TheConstants.{CLIENT_WORD};
 ghost use Rattle.pictures.specs.Layout.{HasRowsInOrder, IsInOrder, across, column_of, column_width};
-ghost use Rattle.pictures.specs.Layout.{down, room_of};
+ghost use Rattle.pictures.specs.Layout.{down, room_of, row_of_place};
+ghost use Rattle.pictures.specs.Paper.{CanSayAt, shows_bar};
 ghost use Rattle.pictures.specs.Readable.{HasCircle, HasTexts, HasTick, IsWithinReach, call_phrases};
 ghost use Rattle.pictures.specs.Readable.{class_names, headings, legend_words, other_words};
 ghost use Rattle.pictures.specs.Strips.{client_words};
@@ -22,6 +25,17 @@ ghost use Rattle.pictures.specs.Strips.{client_words};
 /// stands below the tick of its place, and the dots of one place stand in their order.
 pub fn rows_are_in_order()
     ensures { (scene : Scene) → IsInOrder scene → HasRowsInOrder scene }
+{}
+
+/// On paper each tick, each dot and each gap stands in one strip of its picture, whole, and in no other.
+pub fn each_mark_stands_in_one_strip()
+    ensures { (scene : Scene) → IsInOrder scene → HasStrips scene }
+{}
+
+/// A strip shows the bars whose texts stand in its rows: at their begin, their note and their answer.
+pub fn a_strip_shows_the_bars_of_its_texts()
+    ensures { (scene : Scene) (bar : Bar) (place : ℕ) → IsInOrder scene → CanSayAt scene bar place
+        → shows_bar scene (strip_of (row_of_place scene place)) bar ≡ true }
 {}
 
 /// A later row stands below an earlier one, unless both are at the farthest place.

@@ -2,7 +2,8 @@
 //!
 //! Time goes down: clients stand in columns, each place at which a shown call begins, is noted or
 //! is answered has a row, and each linearization point and each mark of calls that are left out has a row
-//! of its own, so that no words stand over others. The page is of the scene: each function adds exactly the bytes of a tree of
+//! of its own, so that no words stand over others. On paper a picture is cut into strips of rows, each row in
+//! one of them. The page is of the scene: each function adds exactly the bytes of a tree of
 //! elements that a definition makes of the scene and the calls. Its sizes, words and names of classes
 //! stand in `sizes.rt` and `style.rt`; the laws say what has to hold of them, as that a dot stands on
 //! its bar. Colours are of no contract. A picture takes time in proportion to what it shows, times
@@ -13,12 +14,15 @@ mod arrows;
 mod bars;
 mod boxes;
 mod cells;
+mod cuts;
 mod dots;
 mod frames;
 mod ground;
 mod keys;
 pub mod laws;
 mod layout;
+mod marks;
+mod paper;
 mod path;
 mod picture;
 mod sheet;

@@ -14,7 +14,12 @@ use std::alloc::Global;
 use tag::Memory;
 
 /// Adds where the dot of that index stands, in tenths of a pixel.
-fn add_corner(all: &mut Vec<u64>, scene: &Scene, index: usize, dot: &Dot) -> Result<(), Memory>
+pub(crate) fn add_corner(
+    all: &mut Vec<u64>,
+    scene: &Scene,
+    index: usize,
+    dot: &Dot,
+) -> Result<(), Memory>
     requires order { IsInOrder scene.now }
     requires index { index < length scene.now.dots.items }
     ensures { OnOk result (all.new.items ≡ all.old.items ++ corner scene.now index dot.now) }

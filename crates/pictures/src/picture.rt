@@ -2,21 +2,21 @@
 ghost use Rattle.std.specs.Prelude.{◌≡◌, ◌++◌, OnOk, option_map};
 ghost use Rattle.markup.specs.Markup.{opening_tag, rendered};
 ghost use Rattle.markup.specs.declared.names.Element.TheVariants as tag;
-ghost use Rattle.labels.specs.Places.{IsNear};
 ghost use Rattle.pictures.specs.Layout.{IsInOrder};
-ghost use Rattle.pictures.specs.Pictures.{call_of, calls_markup, class_of, end_of, foot, ground};
-ghost use Rattle.pictures.specs.Pictures.{is_faulty, own_key, picture_markup, place_of, svg};
-ghost use Rattle.pictures.specs.Pictures.{svg_attributes};
+ghost use Rattle.pictures.specs.Bars.{call_of, class_of, is_faulty, own_key, place_of};
+ghost use Rattle.pictures.specs.Pictures.{below_strips, calls_markup, foot, ground, picture_markup};
+ghost use Rattle.pictures.specs.Pictures.{svg, svg_attributes};
 
-use crate::arrows::append_arrow;
+use crate::arrows::{append_arrow, end_of};
 use crate::bars::Bars;
 use crate::boxes::{append_named, open_box};
 use crate::dots::Dots;
 use crate::ground::{Gaps, Guides, Ticks};
 use crate::keys::CallKeys;
-use crate::layout::{across, down, rows_of};
+use crate::layout::{down, rows_of};
+use crate::paper::append_paper;
 use crate::path::append_path;
-use crate::sizes::{ARROW_END, BOTTOM, FOOT_BASE, LONG, RIGHT};
+use crate::sizes::{BOTTOM, FOOT_BASE, LONG};
 use crate::strips::{Names, append_lines, append_names};
 use crate::style::{FAULTY_READ, FAULTY_WRITE, PICTURE, READ, TITLE, WRITE};
 use certificate_check::find_call;
@@ -134,17 +134,6 @@ fn append_calls(alloc: Global, page: &mut Vec<u8>, picture: &Picture<'_>) -> Res
     append_arrow(alloc, page, scene, picture.before)
 }
 
-/// Where the picture ends in the column after the last.
-fn end_of(scene: &Scene, arrow: Option<Arrow>) -> u64
-    ensures end { result ≡ end_of scene.now arrow }
-    ensures near { IsNear result }
-{
-    match arrow {
-        None => across(scene, RIGHT, scene.columns.len()),
-        Some(_) => across(scene, ARROW_END, scene.columns.len()),
-    }
-}
-
 /// Opens the picture's element.
 fn open_svg(page: &mut Vec<u8>, scene: &Scene, arrow: Option<Arrow>) -> Result<(), Memory>
     ensures { OnOk result (page.new.items
@@ -165,9 +154,25 @@ fn append_svg(alloc: Global, page: &mut Vec<u8>, picture: &Picture<'_>) -> Resul
     append_closing(page, Element::Svg)
 }
 
+/// Adds the strips that stay in sight, and below them the picture's element.
+fn append_below_strips(
+    alloc: Global,
+    page: &mut Vec<u8>,
+    picture: &Picture<'_>,
+) -> Result<(), Memory>
+    requires { IsInOrder picture.now.scene.now }
+    ensures { OnOk result
+        (page.new.items ≡ page.old.items ++ rendered (below_strips picture.now)) }
+{
+    append_names(alloc, page, picture.scene)?;
+    append_lines(alloc, page, picture.scene, &picture.hall)?;
+    append_svg(alloc, page, picture)
+}
+
 /// Adds the picture: each bar with its call's sentence as its title, each dot, each tick, and a mark
 /// where calls are left out. It lies in a box of its own that scrolls, in which the clients' names and
-/// the lines stay in sight; the box has a name and can have the focus.
+/// the lines stay in sight; the box has a name and can have the focus. On paper stand strips of its rows,
+/// unless it is short, or too large for that.
 ///
 /// If it fails, a beginning of that may have been added; so it is with each function here.
 pub fn append_picture(
@@ -180,8 +185,7 @@ pub fn append_picture(
         (page.new.items ≡ page.old.items ++ rendered (picture_markup picture.now)) }
 {
     open_box(alloc, page, PICTURE, TITLE, picture.keys)?;
-    append_names(alloc, page, picture.scene)?;
-    append_lines(alloc, page, picture.scene, &picture.hall)?;
-    append_svg(alloc, page, picture)?;
+    append_paper(alloc, page, picture)?;
+    append_below_strips(alloc, page, picture)?;
     append_closing(page, Element::Div)
 }

@@ -96,6 +96,12 @@ pub(crate) const FOOT_BASE: u64 = 50;
 /// In the row after the last: the end of the picture.
 pub(crate) const BOTTOM: u64 = 58;
 
+/// A picture of more columns isn't cut on paper: its letters would be too small on A4.
+pub(crate) const MOST_COLUMNS: usize = 16;
+
+/// One of more rows isn't cut: its page would be too large.
+pub(crate) const MOST_ROWS: usize = 2048;
+
 /// The radius of a dot.
 pub(crate) const DOT_RADIUS: u64 = 4;
 

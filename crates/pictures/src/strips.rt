@@ -39,17 +39,17 @@ pub(crate) struct Names<'a> {
 
 /// The lines of the history file at a scene's ticks.
 #[derive(Clone, Copy)]
-struct Lines<'a> {
-    alloc: Global,
-    scene: &'a Scene,
-    hall: &'a HallRows<'a>,
+pub(crate) struct Lines<'a> {
+    pub(crate) alloc: Global,
+    pub(crate) scene: &'a Scene,
+    pub(crate) hall: &'a HallRows<'a>,
 }
 
 /// How many calls the gaps of a scene leave out.
 #[derive(Clone, Copy)]
-struct Omissions<'a> {
-    alloc: Global,
-    scene: &'a Scene,
+pub(crate) struct Omissions<'a> {
+    pub(crate) alloc: Global,
+    pub(crate) scene: &'a Scene,
 }
 
 /// The word before the numbers of these clients.

@@ -52,6 +52,10 @@ pub(crate) const CALLS: &str = "calls";
 
 pub(crate) const ROWS: &str = "rows";
 
+pub(crate) const PAPER: &str = "paper";
+
+pub(crate) const PAPER_STRIP: &str = "paper-strip";
+
 // ---- words
 
 pub(crate) const TITLE: &str = "The calls on ";
@@ -139,3 +143,8 @@ pub(crate) const FAULTY_KEY: &str = "\u{2717} at fault";
 pub(crate) const HIDDEN: &str = "true";
 
 pub(crate) const REGION: &str = "region";
+
+/// In a path: where a line begins, how far right it then goes.
+pub(crate) const MOVE: &str = "M";
+
+pub(crate) const LEVEL: &str = "H";

@@ -3,9 +3,10 @@ ghost use Rattle.std.specs.Prelude.{◌≡◌, ◌++◌, IfOk, OnOk};
 ghost use Rattle.markup.specs.Markup.{rendered};
 ghost use Rattle.pictures.specs.Layout.{IsInOrder};
 ghost use Rattle.pictures.specs.Texts.{fitted_words, if_any, text_at, text_class, text_words};
-ghost use Rattle.pictures.specs.Texts.{signs_of, texts, texts_in};
+ghost use Rattle.pictures.specs.Texts.{signs_of, strip_texts, strip_texts_in, texts, texts_in};
 
 use crate::layout::{across, column_of, down, is_shared, room_of, row_of_place};
+use crate::marks::place_in;
 use crate::sizes::{TEXT_BASE, TEXT_LEFT};
 use crate::style::{ANSWERS, DOES, NOTED, NOTES};
 use crate::words::{Signs, say_begin, say_end, say_note, say_unless};
@@ -163,5 +164,49 @@ impl BarTexts<'_> {
         let column = column_of(self.scene, bar.lane);
         let signs = signs_of(self.scene, faulty, place, bar);
         self.append_in(page, column, signs, bar, call)
+    }
+
+    /// Adds the texts of the call's bar in that column that stand in rows of the strip.
+    fn append_strip_texts(
+        &self,
+        page: &mut Vec<u8>,
+        strip: usize,
+        column: usize,
+        signs: Signs,
+        bar: &Bar,
+        call: &Call<'_>,
+    ) -> Result<(), Memory>
+        requires { IsInOrder self.now.scene.now }
+        ensures { OnOk result (page.new.items ≡ page.old.items ++ rendered
+            (strip_texts_in self.now.scene.now strip column bar.now signs
+            self.now.name.now call.now)) }
+    {
+        let scene = self.scene;
+        let begins = place_in(scene, strip, Some(bar.begins));
+        self.append_text(page, column, signs, call, BarText::Begin, begins)?;
+        let note = place_in(scene, strip, bar.note);
+        self.append_text(page, column, signs, call, BarText::Note, note)?;
+        let answered = place_in(scene, strip, bar.answered);
+        self.append_text(page, column, signs, call, BarText::Answer, answered)
+    }
+
+    /// Adds the texts of the call's bar that stand in rows of the strip.
+    pub(crate) fn append_in_strip(
+        &self,
+        page: &mut Vec<u8>,
+        strip: usize,
+        bar: &Bar,
+        faulty: bool,
+        place: Option<usize>,
+        call: &Call<'_>,
+    ) -> Result<(), Memory>
+        requires { IsInOrder self.now.scene.now }
+        ensures { OnOk result (page.new.items ≡ page.old.items ++ rendered
+            (strip_texts self.now.scene.now strip bar.now faulty place
+            self.now.name.now call.now)) }
+    {
+        let column = column_of(self.scene, bar.lane);
+        let signs = signs_of(self.scene, faulty, place, bar);
+        self.append_strip_texts(page, strip, column, signs, bar, call)
     }
 }

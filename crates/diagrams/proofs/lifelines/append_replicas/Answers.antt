@@ -1,5 +1,5 @@
 use Rattle.diagrams.specs.Lifelines.{replica_lifeline}
-use Rattle.diagrams.proofs.Rendering.{each_below_none, each_below_step}
+use Rattle.labels.proofs.Rendering.{each_below_none, each_below_step}
 use Rattle.diagrams.proofs.lifelines.append_replicas.Goals as goal
 
 pub loop-number-init : goal.loop-number-init

@@ -1,6 +1,7 @@
 use Rattle.std.proofs.Common.{◌≡◌, ◌++◌}
 use Rattle.markup.specs.Markup.{rendered}
-use Rattle.diagrams.specs.Lifelines.{each_below, replica_lifeline}
+use Rattle.labels.specs.Each.{each_below}
+use Rattle.diagrams.specs.Lifelines.{replica_lifeline}
 use Rattle.diagrams.proofs.lifelines.append_replicas.Given as goal
 
 abbrev pub invariant-loop-number : goal.invariant-loop-number

@@ -1,5 +1,5 @@
 use Rattle.diagrams.specs.Strips.{strip_markup}
-use Rattle.diagrams.proofs.Rendering.{each_below_none, each_below_step}
+use Rattle.labels.proofs.Rendering.{each_below_none, each_below_step}
 use Rattle.diagrams.proofs.strips.append_each_strip.Goals as goal
 
 pub loop-strip-init : goal.loop-strip-init

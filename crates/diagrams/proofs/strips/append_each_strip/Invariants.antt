@@ -1,6 +1,6 @@
 use Rattle.std.proofs.Common.{◌≡◌, ◌++◌}
 use Rattle.markup.specs.Markup.{rendered}
-use Rattle.diagrams.specs.Lifelines.{each_below}
+use Rattle.labels.specs.Each.{each_below}
 use Rattle.diagrams.specs.Strips.{strip_markup}
 use Rattle.diagrams.proofs.strips.append_each_strip.Given as goal
 
