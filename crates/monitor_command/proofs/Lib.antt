@@ -1,5 +1,6 @@
 mod Refusals
 mod Reports
 mod Sent
+mod Marking
 mod Judging
 mod Loop

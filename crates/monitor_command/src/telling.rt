@@ -1,10 +1,12 @@
 //! What a monitor reported, as it is told.
-ghost use Rattle.std.specs.Prelude.{◌≡◌, ◌++◌, ℕ, [], List, false, true, IfOk, OnOk, slice_get};
+ghost use Rattle.std.specs.Prelude.{◌≡◌, ◌++◌, ◌&&◌, ◌||◌, ℕ, [], Bool, List, Some, false, true, IfOk, OnOk};
+ghost use Rattle.std.specs.Prelude.{count_by, length, not, slice_get, slice_set};
 ghost use Rattle.std.specs.Option.{option_copied};
 ghost use Rattle.cli.specs.declared.outcome.Found.TheVariants.{Good, Refused, Undecided};
 ghost use Rattle.record_monitor.specs.Monitored.{keys_of, reports_of};
 ghost use Rattle.monitor_sentences.specs.declared.counts.Counts.{Counts};
-ghost use Rattle.monitor_command.specs.Countings.{AreCountsOf, counts_text};
+ghost use Rattle.monitor_command.specs.Countings.{AreCountsOf, counts_text, doubt_count};
+ghost use Rattle.monitor_command.specs.Countings.{is_reported, is_reported_refused};
 ghost use Rattle.monitor_command.specs.Files.{HasDoubtsAlone, HasNoRefusalBefore, HasNoRefusalFrom, HasRefusal};
 ghost use Rattle.monitor_command.specs.Tellings.{EndsWithRefusal, Tells, TellsReport, doubt_text, ended_text};
 ghost use Rattle.monitor_command.specs.Tellings.{is_refusal, key_text, refusal_text};
@@ -181,23 +183,55 @@ fn has_refusal(reports: &[Report]) -> bool
     false
 }
 
-/// Marks the keys that a report is of, if it is a refusal, or if it is none.
-fn mark_keys(marks: &mut [bool], reports: &[Report], refusals: bool, mark: bool) {
+/// Sets the mark of the key of that number, if there is one.
+fn set_mark(marks: &mut [bool], number: usize, mark: bool)
+    ensures { marks.new ≡ slice_set marks.old number mark }
+{
+    if number < marks.len() {
+        marks[number] = mark;
+    }
+}
+
+/// Marks the keys of which something is reported.
+fn mark_reported(marks: &mut [bool], reports: &[Report])
+    ensures many { length marks.new ≡ length marks.old }
+    ensures each { (number : ℕ) (was : Bool) → slice_get marks.old number ≡ Some was
+        → slice_get marks.new number ≡ Some (was || is_reported reports.now number) }
+{
     for report in reports {
-        if is_refusal(report) == refusals
-            && let Some(key) = marks.get_mut(report.key)
-        {
-            *key = mark;
+        set_mark(marks, report.key, true);
+    }
+}
+
+/// Takes the marks from the keys of which a refusal is reported.
+fn unmark_refused(marks: &mut [bool], reports: &[Report])
+    ensures many { length marks.new ≡ length marks.old }
+    ensures each { (number : ℕ) (was : Bool) → slice_get marks.old number ≡ Some was
+        → slice_get marks.new number ≡ Some (was && not (is_reported_refused reports.now number)) }
+{
+    for report in reports {
+        if is_refusal(report) {
+            set_mark(marks, report.key, false);
         }
     }
 }
 
+/// How many keys are marked.
+fn count_marks(marks: &[bool]) -> u64
+    ensures { result ≡ count_by (λ mark. mark) marks.now }
+{
+    marks.iter().filter(|mark| **mark).count() as u64
+}
+
 /// How many keys aren't refused, but have an undecided read, or one that was answered after it was given up.
-fn count_doubts(alloc: Global, monitor: &RecordMonitor) -> Result<u64, Memory> {
-    let mut marks = vec![in alloc; false; monitor.keys().len()]?;
-    mark_keys(marks.as_mut_slice(), monitor.reports(), false, true);
-    mark_keys(marks.as_mut_slice(), monitor.reports(), true, false);
-    Ok(marks.iter().filter(|mark| **mark).count() as u64)
+fn count_doubts(alloc: Global, monitor: &RecordMonitor) -> Result<u64, Memory>
+    ensures { IfOk result (λ count. count ≡ doubt_count monitor.now) }
+{
+    let mut room = vec![in alloc; false; monitor.keys().len()]?;
+    let marks = room.as_mut_slice();
+    mark_reported(marks, monitor.reports());
+    unmark_refused(marks, monitor.reports());
+    Ok(count_marks(marks))
 }
 
 /// How many calls on how many keys there were, and how many of these are refused or have a doubt.

@@ -1,0 +1,9 @@
+use Rattle.std.proofs.Common.{◌≡◌, length, take}
+use Rattle.monitor_command.proofs.Marking.{AreMarked}
+use Rattle.monitor_command.proofs.telling.mark_reported.Given as goal
+
+abbrev pub invariant-loop-report : goal.invariant-loop-report
+invariant-loop-report l = record {
+  many : length l.marks ≡ length l.initial.marks;
+  each : AreMarked (take l.report-index l.reports) l.initial.marks l.marks;
+}
