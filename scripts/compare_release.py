@@ -1,7 +1,7 @@
 """compare_release.py ABD
 
 Compares the program of the package in release/ with ABD, which was built of this state: their help, and what they print and end with on
-the worked rows of crates/test_commands/data, as histories, orders and scripts. The packed one runs with an empty environment.
+the worked rows of commands and of files, as histories, orders and scripts. The packed one runs with an empty environment.
 
 The checksums have to be right in any case. If crates, docs, examples or README.md differ from the commit that the checksums name, the
 programs may differ: then it says how old the package is, and that is all.
@@ -17,7 +17,7 @@ import tempfile
 from concurrent.futures import ThreadPoolExecutor
 
 TOP = os.path.join(os.path.dirname(os.path.abspath(__file__)), "..")
-ROWS = "crates/test_commands/data"
+ROWS = ["crates/abd/rows", "crates/test_files/data"]
 COMPARED = ["crates", "docs", "examples", "README.md"]
 ON_HISTORIES = [["justify", "h"], ["justify", "--unchecked", "h"], ["explain", "h"], ["draw", "h"], ["decide", "h"]]
 ON_HISTORIES += [["decide", "--json", "h"], ["monitor", "h"], ["monitor", "--all", "--json", "h"]]
@@ -77,7 +77,7 @@ def files_of(row):
 def cases():
     """The files and words of each comparison."""
     found = [({}, words) for words in ALONE]
-    for path in sorted(glob.glob(f"{TOP}/{ROWS}/*.rows")):
+    for path in sorted(path for folder in ROWS for path in glob.glob(f"{TOP}/{folder}/*.rows")):
         with open(path, encoding="utf-8") as file:
             rows = [it.split("\n", 1)[1].split("---\n")[0] for it in file.read().split("\n### ")[1:]]
         for row in rows:

@@ -11,7 +11,7 @@ if [ ! -x "$abd" ]; then
 fi
 checks=(
   "python3 scripts/words.py $abd"
-  "python3 scripts/explain_rows.py $abd"
+  "python3 scripts/command_rows.py $abd"
   "python3 scripts/draw_rows.py $abd"
   "python3 scripts/verbs.py $abd"
   "python3 scripts/monitor_pipes.py $abd"

@@ -15,8 +15,8 @@ and the lines may end.
 - abd run: with a refusal it writes a history that justify and check say yes of, and of its callers no more is said than that a call
   was refused, or that one was unavailable (a replica's thread may have met the refusal); or status 4, nothing on standard output, and
   after such lines one that names memory or a thread.
-- the row programs: each row alone. What is said of it is what is expected, up to a line that names memory, or that a thread couldn't be
-  started for want of it, or a step that the program couldn't make, or to the program's end.
+- the row programs: each row alone. What is said of it is what is expected, up to a line that names memory, or a step that the program
+  couldn't make, or to the program's end.
 - store_example: a key that it names has the verdict yes, whatever was refused.
 - test_resources: each test of a refused allocation. It passes (it calls again after a refused one, and compares whole
   worlds, pools, replicas, clients and histories as they were before the call and after it, and verdicts), or it ends early, since an allocation
@@ -43,23 +43,9 @@ AT_ONCE = 48
 MORE = 1000
 
 
-def beginning(told):
-    """A pattern for each beginning of a line that tells of a failure, of any file and line."""
-    pattern = ""
-    for part in reversed(["a", "b", "d", ":", " ", *re.findall("NAME|LINE|.", told)]):
-        part = {"NAME": r"[\w.]+", "LINE": r"\d+"}.get(part, re.escape(part))
-        pattern = f"{part}({pattern})?" if pattern else part
-    return pattern
-
-
-# What a row program says where it couldn't go on for want of memory, which the start of a thread needs too; of the rows of seeds it says
-# statuses alone, and where there is little room for what is said, a beginning of it.
-WANT = (
-    r"(?im)memory|no thread|NO SUCH |NO RUN|NO CHECK|NO HISTORY|not understood|unavailable|(run|simulate|justify|check) 4\b"
-    f"|standard error: ({beginning('no memory')}|{beginning('NAME: line LINE: fault 14 memory')}"
-    f"|{beginning('NAME: line LINE: script fault 8 memory')})$"
-)
-ROWS = ["test_commands", "test_protocol", "test_records"]
+# What a row program says where it couldn't go on for want of memory.
+WANT = "(?i)memory|NO SUCH |not understood"
+ROWS = ["test_files", "test_protocol", "test_records"]
 # The tests that are gone over, by what their names have, and whether all allocations of each are refused.
 TESTS = {"test_resources": ("refused_growth", True), "test_twin": ("both_worlds", False)}
 
@@ -265,9 +251,6 @@ def rows(library, top, name):
         with open(f"{folder}/data/{data}", encoding="utf-8") as file:
             blocks = file.read().split("\n### ")[1:]
         for block in blocks:
-            if block.splitlines()[1] == "rooms" and name == "test_commands":
-                # a run is measured by another one, of which no more is said than its length
-                continue
             with tempfile.TemporaryDirectory() as place:
                 # a row that reads a file of data/ finds it
                 for it in os.listdir(f"{folder}/data"):
@@ -280,8 +263,7 @@ def rows(library, top, name):
                 def judge(at, status, out, errors):
                     lines = out.splitlines()
                     other = next((k for k, line in enumerate(lines) if wanted[k : k + 1] != [line]), len(lines))
-                    # what a command wrote before it wanted memory may stand before that
-                    told = lines[other:] if name == "test_commands" else lines[other : other + 4]
+                    told = lines[other : other + 4]
                     wants = not told or re.search(WANT, "\n".join(told))
                     if status == 0 or not wants:
                         raise Wrong(f"{name}, {data}, {block.splitlines()[0]!r}, growth {at}: status {status}, {out!r}, {errors!r}")

@@ -25,4 +25,4 @@ pub use recorded::{RowSaid, said_by, say_action, say_tag};
 pub use row::Row;
 pub use said::report;
 pub use spans::spans_of;
-pub use texts::{say_bytes, say_outputs, text_said, words_of};
+pub use texts::{say_bytes, text_said, words_of};

@@ -18,15 +18,6 @@ pub fn say_bytes(out: &mut Answer, bytes: &[u8])
     }
 }
 
-/// Says what went to a command's standard output and, after a line that says so, to standard error.
-pub fn say_outputs(answer: &mut Answer, out: &[u8], errors: &[u8]) {
-    say_bytes(answer, out);
-    if !errors.is_empty() {
-        answer.push("standard error:\n");
-    }
-    say_bytes(answer, errors);
-}
-
 /// Whether the text of that name says the word, as a line.
 pub fn text_said(alloc: Global, name: &str, text: &str, word: &str) -> Result<String, AllocError>
     ensures says { IfOk result (λ said. HasSubslice text.now word.now

@@ -1,9 +1,5 @@
 //! What a row asks for.
-use cli::Lines;
-use judged_keys::{Judged, Names, Selection};
-use monitor_command::Monitoring;
 use std::io::ErrorKind;
-use test_rows::AMPLE;
 
 /// A row's input: its first line, which is a kind and its options, and the lines below it.
 #[derive(Clone, Copy)]
@@ -64,55 +60,6 @@ impl<'a> Asked<'a> {
     /// The number that stands there, or else that one.
     pub fn number(self, name: &str, otherwise: usize) -> usize {
         self.value(name).parse::<usize>().unwrap_or(otherwise)
-    }
-
-    /// The numbers of workers that check orders: 1 unless the row says others.
-    pub fn workers(self) -> &'a str {
-        let workers = self.value("workers");
-        if workers.is_empty() { "1" } else { workers }
-    }
-
-    /// Which keys are explained, by what: all, or that of the option `key`; and a reason for each of the first ten
-    /// refused ones, or as many as the option `most` says.
-    pub fn selection(self) -> Selection<'a> {
-        let name = self.value("key");
-        let judged = match self.kind() {
-            "explain-tags" => Judged::Tags,
-            _ => Judged::Orders,
-        };
-        Selection {
-            judged,
-            keys: Names::of(if name.is_empty() { None } else { Some(name) }),
-            most: u16::try_from(self.number("most", 10)).unwrap_or(10),
-        }
-    }
-
-    /// In which form lines are: with `json` they are objects.
-    pub fn form(self) -> Lines {
-        if self.has("json") {
-            Lines::Json
-        } else {
-            Lines::Plain
-        }
-    }
-
-    /// How a history is monitored: a read is given up after 1,000,000 rows unless the row says after how many.
-    pub fn monitoring(self) -> Monitoring {
-        Monitoring {
-            all: self.has("all"),
-            give_up: self.value("give-up").parse::<u32>().unwrap_or(1_000_000),
-            form: self.form(),
-        }
-    }
-
-    /// For how many bytes the standard output has room: for any number unless the row says for how many.
-    pub fn room(self) -> usize {
-        self.number("room", AMPLE)
-    }
-
-    /// How many lines of a trace are told: 10,000 or as many as the option `most` says.
-    pub fn lines_told(self) -> u32 {
-        u32::try_from(self.number("most", 10_000)).unwrap_or(10_000)
     }
 
     /// The sizes of pieces in which each file of the row is read: 1, 7 and 1,048,576 bytes unless

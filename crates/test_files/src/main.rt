@@ -1,48 +1,37 @@
-//! Goes over files of worked rows, and says of each row what came out of the commands, or of the
-//! readers and writers that they stand on.
+//! Goes over files of worked rows, and says of each row what came out of the readers and writers of
+//! files, or what the words of a command line ask for.
 //!
 //! Its words name the files. It ends well where each row is as expected.
 #![tactic(auto)]
 
 mod answers;
 mod asked;
-mod commands;
 mod contents;
 mod counts;
 mod devices;
 mod feeding;
 mod formats;
 mod kept;
-mod loads;
-mod monitored;
 mod names;
 mod notation;
-mod own_writes;
 mod readings;
-mod running;
 mod saying;
-mod whys;
 mod wording;
 
 use asked::Asked;
-use commands::{say_command_row, say_seeds};
 use contents::{say_history_row, say_orders_row, say_script_row, say_writers_row};
 use counts::{say_counted_reads, say_counted_writes, say_faults, say_other_faults};
 use feeding::say_fed;
 use kept::{say_kept_reads, say_kept_sizes};
-use loads::say_runs;
-use monitored::say_monitored;
 use names::say_names;
 use readings::{Format, say_cuts, say_files_read};
 use std::process::ExitCode;
-use std::sync::Wait;
 use std::thread::Threads;
 use test_rows::{Answer, run_rows};
-use whys::{say_history_why, say_orders_why, say_script_why};
 use wording::{say_first_lines, say_words};
 
 /// What comes of rows that read files.
-fn say_file_row(rt: &(impl Threads + Wait + Sync), out: &mut Answer, asked: Asked<'_>) {
+fn say_file_row(rt: &(impl Threads + Sync), out: &mut Answer, asked: Asked<'_>) {
     match asked.kind() {
         "histories" => say_files_read(rt, out, asked, Format::History),
         "orders" => say_files_read(rt, out, asked, Format::Orders),
@@ -51,28 +40,16 @@ fn say_file_row(rt: &(impl Threads + Wait + Sync), out: &mut Answer, asked: Aske
         "feed-orders" => say_fed(rt, out, Format::Orders, asked.lines),
         "history" => say_history_row(rt, out, asked),
         "key-orders" => say_orders_row(rt, out, asked.lines),
+        "script" | "steps" => say_script_row(rt, out, asked),
         "writers" => say_writers_row(rt, out, asked.lines),
         "cuts" => say_cuts(rt, out, asked),
-        "monitor" => say_monitored(rt, out, asked),
-        "why-history" => say_history_why(rt, out, asked),
-        "why-orders" => say_orders_why(rt, out, asked),
-        "why-script" => say_script_why(rt, out, asked),
         _ => out.push("NO SUCH KIND OF ROW\n"),
     }
 }
 
 /// What comes of other rows.
-fn say_row<R>(rt: &R, out: &mut Answer, asked: Asked<'_>)
-where
-    R: Threads + Wait + Copy + Send + Sync + 'static,
-{
+fn say_row(rt: &(impl Threads + Sync), out: &mut Answer, asked: Asked<'_>) {
     match asked.kind() {
-        "run" | "load" | "rooms" => say_runs(rt, out, asked),
-        "simulate" | "trace" | "justify" | "check" | "decide" | "explain" | "explain-tags" => {
-            say_command_row(rt, out, asked)
-        }
-        "seeds" => say_seeds(rt, out, asked),
-        "script" | "steps" => say_script_row(rt, out, asked),
         "words" => say_words(out, asked.lines),
         "first-lines" => say_first_lines(out, asked.lines),
         "names" => say_names(out, asked.lines),

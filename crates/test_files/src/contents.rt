@@ -1,6 +1,5 @@
 //! Rows of single files: what was read, and what is written of it.
 use crate::asked::Asked;
-use crate::commands::extent_or_text;
 use crate::devices::Narrow;
 use crate::formats::{
     Counted, Counting, FaultKind, FileFault, WriteFault, history_text, read_history, read_orders,
@@ -12,7 +11,7 @@ use fault_script::{Command, Script, justified_run, parse};
 use recorder::{History, KeyOrder};
 use std::alloc::{AllocError, Global};
 use std::thread::Threads;
-use test_rows::{AMPLE, Answer, Bounded, Pieces, say_bytes, spans_of};
+use test_rows::{AMPLE, Answer, Bounded, Pieces, extent, say_bytes, spans_of};
 use world_steps::Step;
 
 /// A longer text is said by the number of its lines.
@@ -103,6 +102,14 @@ fn say_history_read(rt: &(impl Threads + Sync), out: &mut Answer, history: &Hist
     compare_rows(rt, out, history, written);
 }
 
+/// How much went out of what goes out where there is room for all.
+fn extent_said(found: &[u8], whole: &[u8], room: usize) -> &'static str {
+    if found.is_empty() && !whole.is_empty() {
+        return "nothing";
+    }
+    extent(found, whole, room).unwrap_or("ANOTHER TEXT")
+}
+
 /// What comes of the history, written with that room.
 fn room_answer(
     alloc: Global,
@@ -115,7 +122,7 @@ fn room_answer(
     say_written_or_fault(&mut answer, write_history(alloc, history, &mut writer));
     let failures = writer.failures();
     let taken = writer.into_inner().taken;
-    let extent = extent_or_text(taken.as_slice(), bytes, room);
+    let extent = extent_said(taken.as_slice(), bytes, room);
     write!(answer, ", failures {failures}, {extent}");
     answer.text()
 }
