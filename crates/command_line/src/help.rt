@@ -10,7 +10,7 @@ pub struct CommandHelp {
 }
 
 /// The version that `abd --version` says.
-pub const VERSION: &str = "0.10.0";
+pub const VERSION: &str = "0.11.0";
 
 /// Of `abd`.
 pub const ABD: CommandHelp = CommandHelp {

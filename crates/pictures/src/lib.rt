@@ -7,7 +7,7 @@
 //! elements that a definition makes of the scene and the calls. Its sizes, words and names of classes
 //! stand in `sizes.rt` and `style.rt`; the laws say what has to hold of them, as that a dot stands on
 //! its bar. Colours are of no contract. A picture takes time in proportion to what it shows, times
-//! the logarithm of that and of the key's calls.
+//! the logarithm of that and of the key's calls, and each of its strips, at most 64, the same again.
 #![tactic(auto, unfolding(markup::specs::Markup::rendered))]
 
 mod arrows;

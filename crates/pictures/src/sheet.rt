@@ -65,11 +65,12 @@ th,td{border-bottom:1px solid var(--faint);padding:.15rem .7rem .15rem 0;text-al
 vertical-align:top}td,th[scope=row]{overflow-wrap:anywhere;min-width:3em}\
 th[scope=row]{font-weight:normal}tr.faulty th,tr.faulty td{color:var(--fault-edge);font-weight:bold}\
 @media print{@page{size:A4 landscape;margin:8mm}:root{color-scheme:light}body{margin:0}\
-section h2,section p{break-after:avoid;break-inside:avoid}\
+section h2{break-after:avoid}p:has(+.picture){break-after:avoid;break-inside:avoid}\
 .picture{overflow:visible;max-height:none;max-width:none;border:none}.rows{overflow:visible}\
 .picture svg{font-size:11px;letter-spacing:-.6px;zoom:.89;print-color-adjust:exact}\
 .picture:has(.paper){display:block}\
-.paper{display:block}.paper~svg{display:none}.paper-strip{break-inside:avoid;margin-bottom:1rem}\
+.paper{display:block}.paper~svg{display:none}\
+.paper-strip{display:inline-block;width:100%;break-inside:avoid;margin-bottom:1rem}\
 .paper-strip svg{max-width:100%;height:auto}\
 details::details-content{display:block;height:auto;content-visibility:visible}}";
 

@@ -9,7 +9,7 @@
 
 mod answer;
 mod devices;
-mod outputs;
+mod extents;
 mod program;
 mod recorded;
 mod row;
@@ -19,7 +19,7 @@ mod texts;
 
 pub use answer::Answer;
 pub use devices::{AMPLE, Bounded, Pieces};
-pub use outputs::{Outputs, Said, extent};
+pub use extents::extent;
 pub use program::run_rows;
 pub use recorded::{RowSaid, said_by, say_action, say_tag};
 pub use row::Row;
