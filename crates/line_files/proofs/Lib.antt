@@ -2,6 +2,7 @@ pub mod SideBySide
 pub mod LineByLine
 pub mod Leaving
 pub mod Ends
+pub mod Beside
 pub mod FeedLemmas
 pub mod Advancing
 pub mod Consuming

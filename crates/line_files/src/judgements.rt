@@ -1,9 +1,10 @@
 //! Judgements of lines, as threads made them side by side.
-ghost use Rattle.std.specs.Prelude.{◌≡◌, []};
+ghost use Rattle.std.specs.Prelude.{◌≡◌, [], true};
 
 use counted_devices::Judgement;
 use std::alloc::Global;
 use std::marker::Model;
+use std::mem;
 
 /// What lines show, in their order.
 ///
@@ -40,6 +41,23 @@ impl<T: Drop, L: Drop> Judgements<T, L> {
         ensures { result ≡ flat_map (λ run. run.items) runs.items }
     {
         Judgements { runs }
+    }
+
+    /// Whether there is no run.
+    pub(crate) fn is_empty(&self) -> bool
+        ensures { result ≡ true → self.now ≡ [] }
+    {
+        self.runs.is_empty()
+    }
+
+    /// What is shown, after which nothing is.
+    pub(crate) fn take(&mut self) -> Judgements<T, L>
+        ensures { result ≡ self.old }
+    {
+        let alloc = *self.runs.allocator();
+        Judgements {
+            runs: mem::replace(&mut self.runs, Vec::new(alloc)),
+        }
     }
 
     /// The runs.

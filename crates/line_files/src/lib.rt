@@ -13,6 +13,7 @@ mod file_feed;
 mod judge_blocks;
 mod judged_lines;
 mod judgements;
+mod next_batch;
 mod progress;
 mod reading;
 mod side_by_side;

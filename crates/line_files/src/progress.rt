@@ -102,6 +102,19 @@ impl<C: Contents> Progress<C> {
         Ok(())
     }
 
+    /// The same of judgements that are taken from where they wait.
+    pub(crate) fn record_waiting(
+        &mut self,
+        waiting: &mut Judgements<C::Item, C::Fault>,
+    ) -> Result<(), ReadFault<C::Fault>>
+        requires { self.old.lines + length waiting.old < 2 ^ 63 }
+        ensures read { ReadsShown C.Reads C.rules C.context C.Shows self.old waiting.old result
+            (λ _. self.new) }
+        ensures lines { OnOk result (self.new.lines ≡ self.old.lines + length waiting.old) }
+    {
+        self.record(waiting.take())
+    }
+
     /// The same of a progress that is handed over.
     pub(crate) fn record_owned(
         mut self,

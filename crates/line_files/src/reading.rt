@@ -1,16 +1,17 @@
 //! Files from readers.
-ghost use Rattle.std.specs.Prelude.{ℕ, ◌≡◌, ◌<◌, ◌≤◌, List, Option, length, true, false, IfOk};
-ghost use Rattle.std.specs.Prelude.{IfErr, OnOk, MatchResult};
+ghost use Rattle.std.specs.Prelude.{ℕ, ◌≡◌, ◌<◌, ◌≤◌, ◌+◌, ◌++◌, List, Option, length, true, false, IfOk};
+ghost use Rattle.std.specs.Prelude.{IfErr, OnOk, MatchResult, take};
 ghost use Rattle.std.specs.Io.KnownBytes.{IsAtEnd};
 ghost use Rattle.counted_devices.specs.DeviceStates.{states, states_since};
 ghost use Rattle.counted_devices.specs.Deliveries.{Holds, HoldsAll, ReadsFrom};
 ghost use Rattle.counted_devices.specs.FirstFaults.{ReadsOn, StopsFrom, faults_by};
 ghost use Rattle.counted_devices.specs.ReadFaults.{FailsFrom};
-ghost use Rattle.line_files.specs.Ahead.{StandsAhead};
+ghost use Rattle.line_files.specs.Ahead.{StandsAhead, GoesAhead};
+ghost use Rattle.line_files.specs.Batches.{IsBatch};
 ghost use Rattle.line_files.specs.Feeds.{StandsForLines};
 
 use crate::ahead::{Ahead, LEAST};
-use crate::batches::{BLOCK, Behind, read_batch};
+use crate::batches::{BLOCK, Batch, Behind, read_batch};
 use crate::contents::{Contents, Opens};
 use crate::feed::Feed;
 use counted_devices::{CountedRead, FaultKind, ReadFault};
@@ -30,6 +31,36 @@ fn room_for(alloc: Global, size: usize) -> Result<Vec<u8>, AllocError>
     ensures { IfOk result (λ room. length room.items ≡ size) }
 {
     vec![in alloc; 0u8; size]
+}
+
+/// Judges the next batch of the reader: where threads share it, while the lines that wait are read.
+fn read_on<C: Contents, R: CountedRead, T: Threads + Sync>(
+    rt: &T,
+    tools: &C::Tools,
+    ahead: Ahead<C, C::Item, C::Fault>,
+    reader: &mut R,
+    room: &mut [u8],
+) -> (
+    Result<Ahead<C, C::Item, C::Fault>, ReadFault<C::Fault>>,
+    Batch,
+)
+    requires some { 0 < length room.old }
+    requires fed { ahead.fed ≤ R.given reader.old }
+    ensures batch { IsBatch R.remaining R.given R.failures reader.old reader.new room.new result.1 }
+    ensures goes { (bytes : List ℕ) → StandsAhead C.Reads C.context C.Shows bytes ahead
+        → GoesAhead C.Reads C.context C.Shows C.rules (bytes ++ take result.1.count room.new)
+        result.0 }
+    ensures count { IfOk result.0 (λ new. new.fed ≡ ahead.fed + result.1.count) }
+{
+    match ahead.progress.contents.context() {
+        Some(under) if room.len() >= LEAST && ahead.waits() => {
+            ahead.read_on(rt, under, tools, reader, room)
+        }
+        _ => {
+            let batch = read_batch(reader, room);
+            (ahead.advance(rt, tools, &room[..batch.count]), batch)
+        }
+    }
 }
 
 /// Judges the next bytes of the reader, and says whether there were some.
@@ -52,8 +83,8 @@ fn read_next<C: Contents, R: CountedRead, T: Threads + Sync>(
     ensures more { IfOk result (λ next. next.1 ≡ true → R.given reader.old < R.given reader.new) }
     ensures counted { OnOk result (R.failures reader.new ≡ R.failures reader.old) }
 {
-    let batch = read_batch(reader, room);
-    let next = ahead.advance(rt, tools, &room[..batch.count])?;
+    let (next, batch) = read_on(rt, tools, ahead, reader, room);
+    let next = next?;
     match batch.behind {
         Behind::More => Ok((next, true)),
         Behind::End => Ok((next, false)),

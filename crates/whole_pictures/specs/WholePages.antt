@@ -112,7 +112,8 @@ abbrev pub none_line : Bool → Markup
 none_line true = nothing
 none_line false = worded tag.P word.HINT.now word.NO_CALL.now
 
--- what stands above the sections: that, and what the pictures' signs mean, of tags if there are some
+-- what stands above the sections: that, and what the signs of pictures mean, of tags if there are
+-- some
 abbrev pub above_sections : Bool → Bool → Markup
 above_sections called tagged = both (none_line called) (legend tagged)
 

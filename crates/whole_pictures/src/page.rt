@@ -92,8 +92,8 @@ fn append_above(page: &mut Vec<u8>, called: bool, tagged: bool) -> Result<(), Me
     append_legend(page, tagged)
 }
 
-/// Says that no call is drawn, if there is none, and adds a section for each hall, and one of the keys without calls if one of them is refused. What was
-/// found of all.
+/// Says that no call is drawn, if there is none, and adds a section for each hall, and one of the keys without
+/// calls if one of them is refused. What was found of all.
 pub(crate) fn add_halls(
     alloc: Global,
     page: &mut Vec<u8>,

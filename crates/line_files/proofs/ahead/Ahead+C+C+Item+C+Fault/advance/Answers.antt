@@ -41,7 +41,7 @@ returns-clause-goes g c = λ bytes s.
     let j = subst Q c.in-Ok.is c.join-read.ensures.second.0 a.splits.partial in
     let r = all_read g.C.Contents.Shows g.C.Contents.Reads g.C.Contents.context g.C.Contents.rules bytes old.progress new old.judged a records in
     let known : Some under ≡ g.C.Contents.context new.contents = c.in-Some.ensures ∙ sym (records a.waiting a.shown a.read a.at).1 in
-    c.check_length.ensures.goes _ (record {
+    c.settle.ensures.goes _ (record {
       at = judged_more g.C.Contents.Shows g.C.Contents.Reads g.C.Contents.context bytes c.args.block.now old.judged.rest.items new (Some under) c.in-Ok.judged r j known;
       fed = omega (arith, s.0.fed, length-append bytes c.args.block.now);
     })

@@ -1,9 +1,9 @@
 use Rattle.std.proofs.Common.{◌≤◌, length, arith}
 use Rattle.std.proofs.lemmas.Result.{err_from_is_err_and}
-use Rattle.line_files.proofs.ahead.Ahead+C+C+Item+C+Fault.check_length.Goals as goal
+use Rattle.line_files.proofs.ahead.Ahead+C+C+Item+C+Fault.settle.Goals as goal
 
-pub returns-then-len-le-LONGEST-clause-goes : goal.returns-then-len-le-LONGEST-clause-goes
-returns-then-len-le-LONGEST-clause-goes g c = λ bytes a.
+pub returns-then-not-at_once-clause-goes : goal.returns-then-not-at_once-clause-goes
+returns-then-not-at_once-clause-goes g c = λ bytes a.
     let rest = c.args.self.judged.rest in
     let short : length rest.items ≤ 65536 = omega (arith, c.if-len-le-LONGEST.true, c.len.ensures, rest.ok.0) in
     (a, short)
