@@ -139,7 +139,7 @@ impl<C: Contents> Ahead<C, C::Item, C::Fault> {
                     → IsJudged C.Shows (Some context) (rest.items ++ block.entry.now) judged) }
                 ensures room { IfOk result (λ judged. length judged.judgements
                     + length judged.rest.items ≤ length rest.items + length block.entry.now) }
-            { judge_block::<C, R>(rt, Some(context), tools, rest, block) },
+            { judge_block::<C, R>(rt, Some(context), tools, 1, rest, block) },
         );
         let progress = read?;
         let Ok(judged) = next else {

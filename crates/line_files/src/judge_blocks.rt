@@ -13,11 +13,13 @@ use tag::Memory;
 /// Judges, under that context, the whole lines of the rest and the block after it. Without a context
 /// the block ends no line.
 ///
-/// The block's first line is put after the rest; the others are judged where they lie.
+/// The block's first line is put after the rest; the others are judged where they lie, by as many threads
+/// as there are processors beside those that are busy.
 pub(crate) fn judge_block<C: Contents, R: Threads + Sync>(
     rt: &R,
     context: Option<C::Context>,
     tools: &C::Tools,
+    busy: usize,
     rest: Vec<u8>,
     block: &[u8],
 ) -> Result<JudgedLines<C::Item, C::Fault>, Memory>
@@ -38,7 +40,7 @@ pub(crate) fn judge_block<C: Contents, R: Threads + Sync>(
     first.extend_from_slice(&block[..end])?;
     let mut found = cut_chunks(alloc, &block[end + 1..])?;
     found.chunks.insert(0, first.as_slice())?;
-    let judgements = judge_chunks::<C, R>(rt, alloc, under, tools, found.chunks.as_slice())?;
+    let judgements = judge_chunks::<C, R>(rt, alloc, under, tools, busy, found.chunks.as_slice())?;
     Ok(JudgedLines {
         judgements,
         rest: Vec::from_slice(alloc, found.rest)?,

@@ -32,6 +32,6 @@ pub(crate) fn read_and_judge<C: Contents, R: Threads + Sync, S: CountedRead>(
     let batch = read_batch(reader, room);
     let alloc = *rest.allocator();
     let begun = mem::replace(rest, Vec::new(alloc));
-    let judged = judge_block::<C, R>(rt, Some(under), tools, begun, &room[..batch.count]);
+    let judged = judge_block::<C, R>(rt, Some(under), tools, 1, begun, &room[..batch.count]);
     (batch, judged)
 }

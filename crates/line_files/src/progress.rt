@@ -206,7 +206,7 @@ impl<C: Contents> Progress<C> {
             ≤ self.old.lines + length rest.items + length block.now) }
     {
         let block = self.take_first(&mut rest, block)?;
-        match judge_block::<C, _>(rt, self.contents.context(), tools, rest, block) {
+        match judge_block::<C, _>(rt, self.contents.context(), tools, 0, rest, block) {
             Ok(judged) => self.catch_up(judged),
             Err(_) => Err(ReadFault::at(self.lines + 1, Stop::Memory)),
         }
