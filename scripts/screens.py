@@ -1,9 +1,10 @@
-"""screens.py ABD FOLDER [KIND ..]
+"""screens.py ABD FOLDER [--sheets DOCS] [KIND ..]
 
 Opens each kind of page in headless Chromium (Debian's chromium; pdftotext is in poppler-utils), and leaves in FOLDER what one sees:
 KIND-WIDTH-light.png and -dark.png at 600, 1200 and 1920 pixels, KIND.pdf as it is printed, and where a page has such, KIND-link.png after a
 link to a bar was followed, KIND-curtain.png three steps on, KIND-hover.png and KIND-focus.png with a call under the mouse or the keyboard.
-They are for people to look at; what a page has to hold is read off it by pages.py.
+They are for people to look at; what a page has to hold is read off it by pages.py. With --sheets, DOCS/KIND.jpg has all pictures of a kind and
+its second sheet of paper, small, side by side (ImageMagick): docs/screens is made so.
 
 It says of each page how large it is, how long it takes at most until it is shown, how many pages its print has, and the least size of a
 letter's box there. The status is 1 if no page could be made of some kind.
@@ -171,8 +172,22 @@ def use(browser, address, place):
         browser.picture(f"{place}-focus.png")
 
 
+def lay_out(folder, name, docs):
+    """Leaves one picture of all that was seen of the page, with the second sheet of its print, or its only one."""
+    place = f"{folder}/{name}"
+    sheet = str(min(2, least_letter(f"{place}.pdf")[0]))
+    subprocess.run(["pdftoppm", "-png", "-r", "60", "-f", sheet, "-singlefile", f"{place}.pdf", f"{place}-print"], check=True)
+    seen = [f"{place}-{width}-{scheme}.png" for scheme in ("light", "dark") for width in WIDTHS]
+    seen += [path for what in ("link", "curtain", "hover", "focus", "print") if os.path.exists(path := f"{place}-{what}.png")]
+    subprocess.run(["montage", "-label", "%t", *seen, "-tile", "3x", "-geometry", "640x460+6+6", "-gravity", "north",
+                    "-background", "#b0b0b0", "-quality", "70", f"{docs}/{name}.jpg"], check=True)
+
+
 def main():
-    abd, folder, kinds = os.path.abspath(sys.argv[1]), os.path.abspath(sys.argv[2]), sys.argv[3:] or list(KINDS)
+    words = sys.argv[1:]
+    docs = words.pop(words.index("--sheets") + 1) if "--sheets" in words else None
+    words = [word for word in words if word != "--sheets"]
+    abd, folder, kinds = os.path.abspath(words[0]), os.path.abspath(words[1]), words[2:] or list(KINDS)
     os.makedirs(folder, exist_ok=True)
     for name in os.listdir(EXAMPLES):
         if name.endswith((".history", ".orders", ".script")):
@@ -187,6 +202,8 @@ def main():
                 if subprocess.run([abd, *KINDS[name]], cwd=folder, stdout=file).returncode not in (0, 1):
                     sys.exit(f"screens: abd {' '.join(KINDS[name])} makes no page")
             look_at(browser, folder, name)
+            if docs:
+                lay_out(folder, name, docs)
     finally:
         browser.close()
 
