@@ -1,13 +1,17 @@
 """Tries edits of the code that the prover has to refuse; scripts/edits.sh says how it is called.
 
-An edit is a file `crates/NAME/must-fail/EDIT.edit` (the gate tries it) or `crates/NAME/inner-edits/EDIT.edit` (this script
-alone does): a line `file: src/FILE.rt`, and pairs of lines `old: TEXT` and `new: TEXT`, where the old text stands in the file
-once. Each is made in a copy of the crate, over what earlier checks of it kept in out/, and `rt check` has to refuse it.
+An edit is a file `crates/NAME/must-fail/EDIT.edit` (`rt ci` tries it) or `crates/NAME/inner-edits/EDIT.edit` (this script
+does): a line `file: src/FILE.rt`, and pairs of lines `old: TEXT` and `new: TEXT`, where the old text stands in the file
+once. A line `gate: yes` says that the gate tries it too (`--in-gate`). Each is made in a copy of the crate, over what earlier
+checks of it kept in out/, and `rt check` has to refuse it.
 
 A function is proved by its own text and the contracts of those that it calls. So edits in the bodies of different functions are
-tried in one check: each has to be refused at a goal of its own function. One that isn't refused so is tried again, alone.
+tried in one check: each has to be refused at a goal of its own function. One that isn't refused so is tried again, alone. For the
+same reason the gate checks of a crate with edits those functions alone that they change, and what these call: from nothing, over
+the libraries that `rt ci` built.
 """
 
+import concurrent.futures
 import os
 import re
 import shutil
@@ -16,10 +20,14 @@ import sys
 import tempfile
 
 SUITES = ("must-fail", "inner-edits")
-USAGE = "usage: scripts/edits.sh [--since COMMIT] [--gate | --inner] [--alone | --applied] [NAME[/EDIT]..]"
+USAGE = "usage: scripts/edits.sh [--since COMMIT] [--gate | --inner | --in-gate] [--alone | --applied] [NAME[/EDIT]..]"
+# The parts of a crate that a check reads.
+PARTS = ("src", "specs", "proofs")
 # How many edits one check tries at most.
 TOGETHER = 12
 FUNCTION = r"(\s*)(pub(\([a-z]+\))? )?(const )?(unsafe )?fn (\w+)"
+# The head of an impl: the trait's name, if it has one, and the type's.
+IMPL = r"impl(?:<.*?>)? (?:(?:\w+::)*(\w+)(?:<.*>)? for )?(?:\w+::)*(\w+)"
 # An error of the source: what the edit wrote can't be compiled.
 SPOILT = r"(\./)?src/.*(is not in scope|expected|no field|mismatch)"
 # A proof file that names what the edit took away: its refusal says little of the contract.
@@ -165,33 +173,63 @@ def below(name):
     return found
 
 
-def copied(name, room):
-    """Copies a crate with what its checks kept, and the libraries below it, into a folder."""
+def copied(name, room, in_gate):
+    """Copies a crate into a folder, and, but for the gate, what its checks kept and the libraries below it."""
+    if in_gate:
+        for part in PARTS:
+            if os.path.isdir(f"crates/{name}/{part}"):
+                shutil.copytree(f"crates/{name}/{part}", f"{room}/crates/{name}/{part}")
+        return
     shutil.copy("HANDLES", room)
     with open(f"{room}/crates.txt", "w", encoding="utf-8") as file:
         file.writelines(below(name).values())
     for crate in below(name):
-        for part in ("src", "specs", "proofs", "out" if crate == name else "out/rlib"):
+        for part in (*PARTS, "out" if crate == name else "out/rlib"):
             if os.path.isdir(f"crates/{crate}/{part}"):
                 shutil.copytree(f"crates/{crate}/{part}", f"{room}/crates/{crate}/{part}")
 
 
-def checked(folder):
+def over_libraries(name, functions):
+    """Returns the words of a check of these functions, or of the whole crate where there are none, over the libraries that
+    `rt ci` built."""
+    kit = os.path.dirname(os.path.dirname(os.path.realpath(shutil.which("rt"))))
+    lines, crates = below(name), os.path.abspath("crates")
+    used = lines[name].split("#")[0].split(":")[1].split()
+    root = "src/main.rt" if os.path.isfile(f"crates/{name}/src/main.rt") else "src/lib.rt"
+    words = [f"{kit}/bin/rattle", "check", "--crate-name", name, root]
+    for it in ["std", *[it for it in used if it not in lines]]:
+        words += ["--extern", f"{it}={kit}/rlibs/{it}.rlib"]
+    words += ["-L", f"dependency={kit}/rlibs"]
+    for it in used:
+        words += ["--extern", f"{it}={crates}/{it}/out/rlib/{it}.rlib"] if it in lines else []
+    for it in lines:
+        words += ["-L", f"dependency={crates}/{it}/out/rlib"] if it != name else []
+    words += ["--antt-project", f"{kit}/rattle/logic/antt-project.json", "--logic-built", f"{kit}/logic_built"]
+    for it in functions:
+        words += ["--only", it]
+    return [*words, "--links", f"{name}=", "--jobs", "1"]
+
+
+def checked(folder, words=("rt", "check", "--jobs", "1")):
     """Returns how a check of the crate there ended, and what it said."""
-    ran = subprocess.run(["rt", "check", "--jobs", "1"], cwd=folder, stdin=subprocess.DEVNULL, stdout=subprocess.PIPE,
-                         stderr=subprocess.STDOUT, text=True, errors="replace")
+    ran = subprocess.run(words, cwd=folder, stdin=subprocess.DEVNULL, stdout=subprocess.PIPE, stderr=subprocess.STDOUT, text=True,
+                         errors="replace")
     if log := os.environ.get("EDITS_LOG"):
         with open(log, "a", encoding="utf-8") as file:
             file.write(f"== {folder}\n{ran.stdout}")
     return ran
 
 
-def refused(folder):
-    """Returns whether the prover refuses the crate there, and what it said first."""
-    ran = checked(folder)
+def is_refused_by(ran):
+    """Returns whether the check came to an end and didn't prove all that it was asked for."""
+    return ran.returncode == 1 and re.search(r"^(logic=not-proved|only=\d+ proved=\d+)", ran.stdout, re.M)
+
+
+def refused(ran):
+    """Returns whether that check refused the crate, and what it said first."""
     told = [it for it in ran.stdout.split("\n") if re.match(r"\S+:\d+:\d+: error|fn \S+: no(t| proof)", it)]
     first = next((it for it in told if not re.match(NAMES_ONLY, it)), "")
-    if "logic=not-proved" not in ran.stdout:
+    if not is_refused_by(ran):
         return False, "NOT REFUSED: still proved" if ran.returncode == 0 else f"BAD EDIT: {ran.stdout[-400:]}"
     if re.match(SPOILT, first):
         return False, f"BAD EDIT: {first[:200]}"
@@ -217,6 +255,33 @@ class Edited:
                 source.write(text)
 
 
+def path_of(folder, function):
+    """Returns the path by which a check names a function: its module, its type, with the trait's name after it, and its own name."""
+    file, name, first, _ = function
+    with open(f"{folder}/{file}", encoding="utf-8") as source:
+        lines = source.read().split("\n")[:first]
+    found = None
+    if lines[-1].startswith(" "):
+        found = re.match(IMPL, next((it for it in reversed(lines) if it.startswith("impl")), ""))
+    module = re.sub(r"^src/(lib|main)$|^src/", "", file[:-3]).replace("/", "::")
+    return "::".join(it for it in (module, found and f"{found[2]}{found[1] or ''}", name) if it)
+
+
+def check_of(folder, edits):
+    """Returns how a check of these edits ended in a copy of their crate: of the functions that they change alone where the copy has
+    nothing kept, as in the gate."""
+    if os.path.isdir(f"{folder}/out"):
+        return checked(folder)
+    name = os.path.basename(folder)
+    functions = [it for edit in edits for it in functions_of(f"crates/{name}", edit)]
+    ran = checked(folder, over_libraries(name, sorted({path_of(f"crates/{name}", it) for it in functions})))
+    if ran.returncode == 2 and functions:
+        # (an impl that a check names otherwise, one with types in brackets, say)
+        modules = {re.sub(r"^src/", "", it[0][:-3]).replace("/", "::") for it in functions}
+        ran = checked(folder, over_libraries(name, sorted(modules)))
+    return ran
+
+
 def try_together(folder, edits):
     """Tries edits of different functions in one check, and returns by edit what was said first of those that it refused."""
     texts = {}
@@ -227,9 +292,9 @@ def try_together(folder, edits):
                     texts[file] = source.read()
             texts[file] = texts[file].replace(old, new)
     with Edited(folder, texts):
-        ran = checked(folder)
+        ran = check_of(folder, edits)
     found = {}
-    if "logic=not-proved" in ran.stdout:
+    if is_refused_by(ran):
         for edit in edits:
             told = own_lines(ran.stdout.split("\n"), functions_of(folder, edit))
             first = next((it for it in told if not re.match(NAMES_ONLY, it)), "")
@@ -244,14 +309,14 @@ def try_alone(folder, name, edit):
     if why:
         return False, f"BAD EDIT: {why}"
     with Edited(folder, texts):
-        return refused(folder)
+        return refused(check_of(folder, [edit]))
 
 
-def try_crate(name, edits, is_alone):
+def try_crate(name, edits, is_alone, in_gate=False):
     """Tries a crate's edits, and returns how many were not refused."""
     failures = 0
     with tempfile.TemporaryDirectory(prefix="edits-") as room:
-        copied(name, room)
+        copied(name, room, in_gate)
         folder = f"{room}/crates/{name}"
         for group in [[it] for it in edits] if is_alone else in_groups(f"crates/{name}", edits):
             found = try_together(folder, group) if len(group) > 1 else {}
@@ -260,6 +325,22 @@ def try_crate(name, edits, is_alone):
                 failures += not is_refused
                 print(f"{edit.removeprefix('crates/')}: {said}", flush=True)
     return failures
+
+
+def try_in_gate(asked):
+    """Tries edits by crate, as many crates at once as the gate has lanes, the largest first. Returns how many were not refused."""
+    def size(name):
+        return sum(os.path.getsize(f"{at}/{it}") for at, _, files in os.walk(f"crates/{name}/src") for it in files)
+
+    with concurrent.futures.ThreadPoolExecutor(int(os.environ.get("RT_JOBS") or os.cpu_count())) as pool:
+        names = sorted(asked, key=size, reverse=True)
+        return sum(pool.map(lambda name: try_crate(name, asked[name], False, True), names))
+
+
+def is_of_gate(edit):
+    """Returns whether the edit has the line which says that the gate tries it."""
+    with open(edit, encoding="utf-8") as lines:
+        return "gate: yes" in lines.read().split("\n")
 
 
 def apply_crate(name, edits):
@@ -274,13 +355,14 @@ def apply_crate(name, edits):
 
 
 def main(words):
-    commit, suites, names, is_alone, only_applied = None, SUITES, [], False, False
+    commit, suites, names, is_alone, only_applied, in_gate = None, SUITES, [], False, False, False
     while words:
         word = words.pop(0)
         if word == "--since" and words:
             commit = words.pop(0)
-        elif word in ("--gate", "--inner"):
+        elif word in ("--gate", "--inner", "--in-gate"):
             suites = SUITES[:1] if word == "--gate" else SUITES[1:]
+            in_gate = word == "--in-gate"
         elif word == "--alone":
             is_alone = True
         elif word == "--applied":
@@ -293,15 +375,19 @@ def main(words):
     for name in names:
         if name.split("/")[0] not in crates:
             stop(f"there is no crate {name}")
-    failures = tried = 0
+    failures, tried, of_gate = 0, 0, {}
     for crate in crates:
         found = [f"crates/{crate}/{suite}/{it}" for suite in suites if os.path.isdir(f"crates/{crate}/{suite}")
                  for it in sorted(os.listdir(f"crates/{crate}/{suite}")) if it.endswith(".edit")]
         asked = lambda it: not names or crate in names or f"{crate}/{os.path.basename(it)[:-5]}" in names
         edits = [it for it in found if asked(it) and (not commit or has_changed(f"crates/{crate}", it, commit))]
-        if edits:
+        if in_gate:
+            of_gate[crate] = [it for it in edits if is_of_gate(it)]
+            tried += len(of_gate[crate])
+        elif edits:
             failures += apply_crate(crate, edits) if only_applied else try_crate(crate, edits, is_alone)
             tried += len(edits)
+    failures += try_in_gate({crate: edits for crate, edits in of_gate.items() if edits})
     print(f"{tried} edits, {failures} don't apply" if only_applied else f"{tried} edits tried, {failures} not refused")
     return 1 if failures else 0
 
