@@ -18,7 +18,7 @@ and the lines may end.
 - the row programs: each row alone. What is said of it is what is expected, up to a line that names memory, or a step that the program
   couldn't make, or to the program's end.
 - store_example: a key that it names has the verdict yes, whatever was refused.
-- test_resources: each test of a refused allocation. It passes (it calls again after a refused one, and compares whole
+- refused_calls, a crate in the folder that REFUSED_CALLS names: each of its tests. It passes (it calls again after a refused one, and compares whole
   worlds, pools, replicas, clients and histories as they were before the call and after it, and verdicts), or it ends early, since an allocation
   of its own was refused.
 - test_twin: its test ends early, and names memory.
@@ -47,7 +47,7 @@ MORE = 1000
 WANT = "(?i)memory|NO SUCH |not understood"
 ROWS = ["test_files", "test_protocol", "test_records"]
 # The tests that are gone over, by what their names have, and whether all allocations of each are refused.
-TESTS = {"test_resources": ("refused_growth", True), "test_twin": ("both_worlds", False)}
+TESTS = {"refused_calls": ("refused_growth", True), "test_twin": ("both_worlds", False)}
 
 
 class Wrong(Exception):
@@ -321,7 +321,8 @@ def main():
         names = names[1:] or ["abd", "store_example", "test_store"]
     bad = False
     for name in names or ["abd", *ROWS, "store_example", "test_store", *TESTS]:
-        program = f"{top}/crates/{name}/out/{name}{'_tests' if name in TESTS else ''}"
+        place = os.environ.get("REFUSED_CALLS", top) if name == "refused_calls" else top
+        program = f"{place}/crates/{name}/out/{name}{'_tests' if name in TESTS else ''}"
         if not os.path.isfile(program):
             print(f"{name} is not built")
             bad = True
@@ -337,7 +338,7 @@ def main():
             elif name in ROWS:
                 rows(library, top, name)
             else:
-                tests(library, top, name)
+                tests(library, place, name)
         except Wrong as it:
             print(it)
             bad = True

@@ -93,10 +93,9 @@ fn meet<R: Threads + Wait + Clock + Sync>(rt: &R, alloc: Global, checker: Checke
     are_checked(rt, alloc, checker, &gate) == Some(true) && gate.met.load(Ordering::SeqCst) == 2
 }
 
-#[test]
-fn two_workers_are_at_the_gate_at_once(rt: HostRuntime) {
-    for checker in [Checker::Parts, Checker::History, Checker::Histories] {
-        let meet = meet(&rt, rt.alloc(), checker);
-        assert!(rt; meet);
-    }
+/// Whether two workers are at the gate at once, whichever function has them check.
+pub fn always_meet<R: Threads + Wait + Clock + Sync>(rt: &R, alloc: Global) -> bool {
+    [Checker::Parts, Checker::History, Checker::Histories]
+        .iter()
+        .all(|checker| meet(rt, alloc, *checker))
 }

@@ -121,12 +121,14 @@ fn has_its_share<R: Threads + Wait + Clock + Sync>(
         && gate.until_free.load(Ordering::SeqCst) == others | only(worker)
 }
 
-#[test]
-fn each_worker_passes_its_own_indexes_on_a_thread_of_its_own(rt: HostRuntime) {
+/// Whether each worker passes the gate for its own indexes, on a thread of its own.
+pub fn have_their_shares<R: Threads + Wait + Clock + Sync>(rt: &R, alloc: Global) -> bool {
     for workers in [1u8, 2, 3, 16] {
         for worker in 0..usize::from(workers) {
-            let has_its_share = has_its_share(&rt, rt.alloc(), workers, worker);
-            assert!(rt; has_its_share);
+            if !has_its_share(rt, alloc, workers, worker) {
+                return false;
+            }
         }
     }
+    true
 }
