@@ -1,5 +1,7 @@
-//! Runs the worked rows of names, histories, orders, tags and verdicts, and says what came out of
-//! each: see the heads of the files in data/.
+//! Goes over files of worked rows of names, histories, orders, tags, verdicts and what values decide, and
+//! says of each row what came out: see the heads of the files in data/.
+//!
+//! Its words name the files. It ends well where each row is as expected.
 #![tactic(auto)]
 
 ghost use Rattle.std.specs.Prelude.{◌≤◌};
@@ -8,14 +10,14 @@ mod calls;
 mod names;
 mod plain_check;
 mod small_parts;
+mod values;
 mod verdicts;
 mod words;
 
 use recorder::History;
 use std::alloc::{AllocError, Global};
 use std::process::ExitCode;
-use std::{env, fs};
-use test_rows::{Answer, Row, report};
+use test_rows::{Answer, run_rows};
 use words::{first_word, number};
 
 /// Says what comes of a line.
@@ -49,71 +51,16 @@ fn say_lines(out: &mut Answer, input: &str) {
     }
 }
 
-/// What comes of a row's lines.
+/// What comes of a row: of the lines below `values`, or else of steps and questions.
 fn found(alloc: Global, input: &str) -> Result<String, AllocError> {
     let mut out = Answer::new(alloc);
-    say_lines(&mut out, input);
+    match input.strip_prefix("values\n") {
+        Some(lines) => values::say_decided(&mut out, lines),
+        None => say_lines(&mut out, input),
+    }
     out.text()
 }
 
-/// Tells what was found of a row. Whether it is as expected, and was told.
-fn tell_found(rt: &HostRuntime, row: &Row<'_>, found: &str) -> bool {
-    match report(rt.alloc(), row, found) {
-        Ok(text) => rt.println(text.as_str()).is_ok() && found == row.expected,
-        Err(_) => false,
-    }
-}
-
-/// Tells that there is no row, or no memory for one.
-fn tell_none(rt: &HostRuntime, why: &str) -> bool {
-    let _ = rt.println(why);
-    false
-}
-
-/// Tells what came of a row. Whether it is as expected.
-fn tell_row(rt: &HostRuntime, block: &str) -> bool {
-    let Some(row) = Row::read(block) else {
-        return tell_none(rt, "NOT A ROW\n");
-    };
-    match found(rt.alloc(), row.input) {
-        Ok(text) => tell_found(rt, &row, text.as_str()),
-        Err(_) => tell_none(rt, "no memory"),
-    }
-}
-
-/// Tells the rows of a file, and whether all are as expected.
-fn tell_rows(rt: &HostRuntime, text: &str) -> bool {
-    let mut all_good = true;
-    for block in text.split("\n### ").skip(1) {
-        all_good = tell_row(rt, block) && all_good;
-    }
-    all_good
-}
-
-/// Tells the rows of the file of that name, and whether all are as expected.
-fn tell_file(rt: &HostRuntime, name: &str) -> bool {
-    match fs::read_to_string(rt, name) {
-        Ok(text) => tell_rows(rt, text.as_str()),
-        Err(_) => false,
-    }
-}
-
-/// Tells the rows of each file that the arguments name, and whether all are as expected.
-fn run(rt: &HostRuntime) -> bool {
-    let Ok(names) = env::args(rt) else {
-        return false;
-    };
-    let mut all_good = true;
-    for name in names.skip(1) {
-        all_good = tell_file(rt, name.as_str()) && all_good;
-    }
-    all_good
-}
-
 fn main(rt: HostRuntime) -> ExitCode {
-    if run(&rt) {
-        ExitCode::SUCCESS
-    } else {
-        ExitCode::FAILURE
-    }
+    run_rows(&rt, &|input: &str| found(rt.alloc(), input))
 }

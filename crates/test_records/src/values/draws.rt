@@ -1,6 +1,6 @@
 //! Drawn histories of up to seven calls, pending ones among them, in which values come again.
 
-use crate::steps::{answered, begin};
+use super::steps::{answered, begin};
 use recorder::History;
 use std::alloc::Global;
 use tag::{Action, OpId, Returned, Value};
