@@ -1,7 +1,7 @@
 """refuse_growths.py LIBRARY TOP [all] [NAME ..]
 
 Runs built programs with the library before them that refuses one allocation, the first, the second and so on until a run meets none. Of a row
-with more than 600 allocations, and of test_twin, the first 300 are refused and 300 more, evenly spread up to the last.
+with more than 600 allocations the first 300 are refused and 300 more, evenly spread up to the last.
 
 With the word `all` every allocation from that one on is refused, for each of abd, store_example and test_store, whose runs wait most of
 their time, so that many are under way at once. Each run has to end within 10 seconds, with a status that
@@ -21,7 +21,6 @@ and the lines may end.
 - refused_calls, a crate in the folder that REFUSED_CALLS names: each of its tests. It passes (it calls again after a refused one, and compares whole
   worlds, pools, replicas, clients and histories as they were before the call and after it, and verdicts), or it ends early, since an allocation
   of its own was refused.
-- test_twin: its test ends early, and names memory.
 - test_store: 300 allocations, evenly spread over a run of all rows, most of which wait for threads. Each run ends, and at most one row, the
   one that met the refusal, comes out otherwise.
 """
@@ -46,8 +45,8 @@ MORE = 1000
 # What a row program says where it couldn't go on for want of memory.
 WANT = "(?i)memory|NO SUCH |not understood"
 ROWS = ["test_files", "test_protocol", "test_records"]
-# The tests that are gone over, by what their names have, and whether all allocations of each are refused.
-TESTS = {"refused_calls": ("refused_growth", True), "test_twin": ("both_worlds", False)}
+# The tests that are gone over, by what their names have.
+TESTS = {"refused_calls": "refused_growth"}
 
 
 class Wrong(Exception):
@@ -298,10 +297,9 @@ def hostile_rows(library, top):
 
 def tests(library, top, crate):
     """The tests of a crate of which it is said what a refused allocation leaves."""
-    named, all_of_them = TESTS[crate]
     runs = Runs(library, f"{top}/crates/{crate}/out/{crate}_tests", top)
     listed = subprocess.run([runs.program, "--list"], capture_output=True, text=True).stdout
-    names = [name for name in re.findall(r"^(\S+): test$", listed, re.M) if named in name]
+    names = [name for name in re.findall(r"^(\S+): test$", listed, re.M) if TESTS[crate] in name]
     if not names:
         raise Wrong(f"{crate}: it has no such test")
     for name in names:
@@ -310,7 +308,7 @@ def tests(library, top, crate):
             if not re.search(r"(?i)error: \"?(memory|no memory|allocfailed)", out + errors):
                 raise Wrong(f"{name}, growth {at}: status {status}, {out!r}, {errors!r}")
 
-        refused, same, count = runs.go_over([name], judge, all_of_them)
+        refused, same, count = runs.go_over([name], judge, True)
         print(f"{name}: {refused} of {count} growths; at {same} of them all was as it was, and the rest are the test's own", flush=True)
 
 

@@ -1,5 +1,5 @@
 //! Goes over files of worked rows of the protocol, and says of each row what came of its steps: of a
-//! world, a client, a replica, the network, or quorums.
+//! world, a client, a replica, the network, or quorums; and whether a world answers as a plain, slow one.
 //!
 //! Its words name the files. It ends well where each row is as expected.
 #![tactic(auto)]
@@ -12,6 +12,7 @@ mod sets;
 mod settings;
 mod subject;
 mod texts;
+mod twin;
 mod words;
 mod worlds;
 

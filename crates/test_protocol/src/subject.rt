@@ -6,6 +6,7 @@ use crate::sets::{
     compared, quorums_answer, say_generated, say_members, say_reasons, say_refusals,
 };
 use crate::settings::Settings;
+use crate::twin::say_twins;
 use crate::words::Words;
 use crate::worlds::{step_of, world_answers};
 use client_phases::Client;
@@ -138,6 +139,7 @@ fn answer_alone(out: &mut Answer, line: &str) {
         "refusals" => say_refusals(out),
         "reasons" => say_reasons(out),
         "generator" => say_generated(out, words),
+        "twin" => say_twins(out, words),
         _ => out.push("NO SUCH STEP"),
     }
 }

@@ -4,16 +4,16 @@ use world_steps::{Effect, Refusal};
 
 /// How often each refusal came, by its number, and each effect, from 16 on.
 #[derive(Clone, Copy)]
-pub(crate) struct Answers {
+pub struct Answers {
     counts: [u32; 30],
 }
 
 impl Answers {
-    pub(crate) fn none() -> Answers {
+    pub fn none() -> Answers {
         Answers { counts: [0; 30] }
     }
 
-    pub(crate) fn add(&mut self, answer: Result<Effect, Refusal>) {
+    pub fn add(&mut self, answer: Result<Effect, Refusal>) {
         let number = match answer {
             Err(refusal) => refusal as usize,
             Ok(effect) => effect_number(effect),
@@ -23,11 +23,21 @@ impl Answers {
         }
     }
 
-    pub(crate) fn count(&self, number: usize) -> u32 {
+    fn count(&self, number: usize) -> u32 {
         match self.counts.get(number) {
             Some(count) => *count,
             None => 0,
         }
+    }
+
+    /// The number of the first answer that never came.
+    pub fn missing(&self) -> Option<usize> {
+        for number in (1..14).chain(16..30) {
+            if self.count(number) == 0 {
+                return Some(number);
+            }
+        }
+        None
     }
 }
 

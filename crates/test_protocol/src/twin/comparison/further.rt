@@ -1,10 +1,10 @@
 //! The steps that random steps never are.
-use crate::stop::Stop;
+use crate::twin::stop::Stop;
 use std::alloc::Global;
 use tag::{Action, ClientId, Key, ReplicaId, Value};
 use world_steps::Step;
 
-pub(crate) fn client(name: u32) -> Result<ClientId, Stop> {
+pub fn client(name: u32) -> Result<ClientId, Stop> {
     Ok(ClientId::new(name)?)
 }
 
@@ -14,7 +14,7 @@ fn replica(number: u32) -> Result<ReplicaId, Stop> {
 }
 
 /// A client invokes a read.
-pub(crate) fn read(alloc: Global, name: u32) -> Result<Step, Stop> {
+pub fn read(alloc: Global, name: u32) -> Result<Step, Stop> {
     Ok(Step::Invoke {
         client: client(name)?,
         key: Key::new(alloc, "k0")?,
@@ -23,7 +23,7 @@ pub(crate) fn read(alloc: Global, name: u32) -> Result<Step, Stop> {
 }
 
 /// A client sends to the first replica.
-pub(crate) fn query(name: u32) -> Result<Step, Stop> {
+pub fn query(name: u32) -> Result<Step, Stop> {
     Ok(Step::Send {
         client: client(name)?,
         replica: replica(0)?,
@@ -43,7 +43,7 @@ fn write(alloc: Global, client: ClientId, key: &Key) -> Result<Step, Stop> {
 }
 
 /// The same step, but that a write writes `a`.
-pub(crate) fn with_same_value(alloc: Global, step: &Step) -> Result<Step, Stop> {
+pub fn with_same_value(alloc: Global, step: &Step) -> Result<Step, Stop> {
     match step {
         Step::Invoke {
             client,
@@ -105,7 +105,7 @@ fn start(number: u32) -> Result<Step, Stop> {
 /// The step before the random one of that number, if there is one. In each round of 60 steps a replica
 /// stops, stops again and starts; another, that is up, starts; and two clients take a step, one of
 /// whom never joined. Of the replicas that take turns one isn't there.
-pub(crate) fn further_step(alloc: Global, replicas: u8, number: u32) -> Result<Option<Step>, Stop> {
+pub fn further_step(alloc: Global, replicas: u8, number: u32) -> Result<Option<Step>, Stop> {
     let round = number / 60;
     let turns = u32::from(replicas) + 1;
     let step = match number % 60 {

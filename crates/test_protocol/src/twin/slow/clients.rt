@@ -1,6 +1,6 @@
 //! A client as where it stands, its call, whom it counted and what it was told.
 use super::replicas::copied;
-use crate::stop::Stop;
+use crate::twin::stop::Stop;
 use client_phases::{Phase, ReadMode, Taken};
 use replica::{Reply, Request};
 use std::alloc::Global;
@@ -8,11 +8,11 @@ use tag::{Action, ClientId, Key, OpId, ReplicaId, Returned, Tag, Value};
 
 /// The votes of each replica, how many end an asking and a putting, and how clients read.
 #[derive(Drop)]
-pub(crate) struct Rules {
-    pub(crate) votes: Vec<u32>,
-    pub(crate) ask: u32,
-    pub(crate) put: u32,
-    pub(crate) reads: ReadMode,
+pub struct Rules {
+    pub votes: Vec<u32>,
+    pub ask: u32,
+    pub put: u32,
+    pub reads: ReadMode,
 }
 
 impl Rules {
@@ -34,7 +34,7 @@ impl Rules {
 
 /// A call: its number, its key and what it asks.
 #[derive(Drop)]
-pub(crate) struct Call {
+pub struct Call {
     op: OpId,
     key: Key,
     action: Action,
@@ -53,9 +53,9 @@ impl Call {
 /// this phase; the pair that it puts, or the one of the greatest tag that it was told; the least tag
 /// that it was told.
 #[derive(Drop)]
-pub(crate) struct SlowClient {
-    pub(crate) name: ClientId,
-    pub(crate) phase: Phase,
+pub struct SlowClient {
+    pub name: ClientId,
+    pub phase: Phase,
     call: Option<Call>,
     counted: Vec<ReplicaId>,
     tag: Tag,
@@ -65,7 +65,7 @@ pub(crate) struct SlowClient {
 
 impl SlowClient {
     /// An idle one.
-    pub(crate) fn new(alloc: Global, name: ClientId) -> SlowClient {
+    pub fn new(alloc: Global, name: ClientId) -> SlowClient {
         SlowClient {
             name,
             phase: Phase::Idle,
@@ -78,7 +78,7 @@ impl SlowClient {
     }
 
     /// It begins to ask: nobody is counted, and nothing was told.
-    pub(crate) fn invoke(&mut self, op: OpId, key: &Key, action: &Action) -> Result<(), Stop> {
+    pub fn invoke(&mut self, op: OpId, key: &Key, action: &Action) -> Result<(), Stop> {
         self.call = Some(Call::new(op, key, action)?);
         self.phase = Phase::Ask;
         self.counted.clear();
@@ -106,7 +106,7 @@ impl SlowClient {
     }
 
     /// What it sends: a query while it asks, its pair while it puts.
-    pub(crate) fn request(&self) -> Result<Request, Stop> {
+    pub fn request(&self) -> Result<Request, Stop> {
         let call = self.call()?;
         let op = call.op;
         let key = call.key.copy()?;
@@ -118,7 +118,7 @@ impl SlowClient {
     }
 
     /// The number of its call and its answer: a read's value, or that the write is done.
-    pub(crate) fn answer(&self) -> Result<(OpId, Returned), Stop> {
+    pub fn answer(&self) -> Result<(OpId, Returned), Stop> {
         let call = self.call()?;
         match &call.action {
             Action::Read => Ok((call.op, Returned::Value(copied(&self.value)?))),
@@ -127,7 +127,7 @@ impl SlowClient {
     }
 
     /// It has no call any more, and stands there.
-    pub(crate) fn end(&mut self, phase: Phase) {
+    pub fn end(&mut self, phase: Phase) {
         self.call = None;
         self.phase = phase;
     }
@@ -157,7 +157,7 @@ impl SlowClient {
     }
 
     /// It makes of a reply what comes of it.
-    pub(crate) fn hear(&mut self, rules: &Rules, reply: &Reply) -> Result<Taken, Stop> {
+    pub fn hear(&mut self, rules: &Rules, reply: &Reply) -> Result<Taken, Stop> {
         let (phase, op, replica) = match reply {
             Reply::Held { op, replica, .. } => (Phase::Ask, *op, *replica),
             Reply::Kept { op, replica } => (Phase::Put, *op, *replica),

@@ -1,11 +1,11 @@
 //! A replica as a list of what it keeps.
-use crate::stop::Stop;
+use crate::twin::stop::Stop;
 use replica::{Reply, Request};
 use std::alloc::Global;
 use tag::{Key, Memory, ReplicaId, Tag, Value};
 
 /// An equal value, or absent.
-pub(crate) fn copied(value: &Option<Value>) -> Result<Option<Value>, Stop> {
+pub fn copied(value: &Option<Value>) -> Result<Option<Value>, Stop> {
     match value {
         None => Ok(None),
         Some(value) => Ok(Some(value.copy()?)),
@@ -14,7 +14,7 @@ pub(crate) fn copied(value: &Option<Value>) -> Result<Option<Value>, Stop> {
 
 /// The tag and the value of a key that somebody wrote.
 #[derive(Drop)]
-pub(crate) struct Entry {
+pub struct Entry {
     key: Key,
     tag: Tag,
     value: Option<Value>,
@@ -22,15 +22,15 @@ pub(crate) struct Entry {
 
 /// A replica, up or down, with an entry for each key that somebody wrote.
 #[derive(Drop)]
-pub(crate) struct SlowReplica {
-    pub(crate) number: ReplicaId,
-    pub(crate) is_up: bool,
+pub struct SlowReplica {
+    pub number: ReplicaId,
+    pub is_up: bool,
     entries: Vec<Entry>,
 }
 
 impl SlowReplica {
     /// An empty one that is up.
-    pub(crate) fn new(alloc: Global, number: ReplicaId) -> SlowReplica {
+    pub fn new(alloc: Global, number: ReplicaId) -> SlowReplica {
         SlowReplica {
             number,
             is_up: true,
@@ -89,7 +89,7 @@ impl SlowReplica {
     }
 
     /// What it answers to a request, which it carries out.
-    pub(crate) fn answer(&mut self, request: &Request) -> Result<Reply, Stop> {
+    pub fn answer(&mut self, request: &Request) -> Result<Reply, Stop> {
         let replica = self.number;
         let (op, key) = match request {
             Request::Query { op, key } | Request::Put { op, key, .. } => (*op, key),
@@ -108,7 +108,7 @@ impl SlowReplica {
 }
 
 /// So many of them, at most fifteen.
-pub(crate) fn all(alloc: Global, count: usize) -> Result<Vec<SlowReplica>, Stop> {
+pub fn all(alloc: Global, count: usize) -> Result<Vec<SlowReplica>, Stop> {
     let mut replicas = Vec::new(alloc);
     for number in 0u8..15 {
         if let Some(name) = ReplicaId::new(number)

@@ -4,7 +4,7 @@ use tag::{Action, ClientId, Key, OpId, Returned, Tag};
 
 /// A row with texts of its own.
 #[derive(Drop)]
-pub(crate) enum SlowRow {
+pub enum SlowRow {
     Invoke {
         op: OpId,
         client: ClientId,
@@ -23,7 +23,7 @@ pub(crate) enum SlowRow {
 
 impl SlowRow {
     /// The row as a history lends it.
-    pub(crate) fn lent(&self) -> Row<'_> {
+    pub fn lent(&self) -> Row<'_> {
         match self {
             SlowRow::Invoke {
                 op,

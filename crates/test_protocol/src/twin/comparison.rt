@@ -1,10 +1,9 @@
 //! Both worlds take the same random steps, and some that random steps never are.
-mod answers;
 mod further;
 
-use crate::slow::{Rules, SlowRow, SlowWorld};
-use crate::stop::Stop;
-use answers::Answers;
+use crate::twin::answers::Answers;
+use crate::twin::slow::{Rules, SlowRow, SlowWorld};
+use crate::twin::stop::Stop;
 use client_phases::ReadMode;
 use further::{client, further_step, query, read, with_same_value};
 use quorum::Quorums;
@@ -17,7 +16,7 @@ use world_steps::{Config, Effect, Refusal, Step, World};
 /// of a put quorum, how clients read, how many calls and messages there may be, and whether all writes
 /// write the same.
 #[derive(Clone, Copy)]
-struct Run<'a> {
+pub struct Run<'a> {
     seed: u64,
     steps: u32,
     votes: &'a [u8],
@@ -74,7 +73,7 @@ fn both_of(alloc: Global, run: &Run) -> Result<Twins, Stop> {
     }
 }
 
-/// Ends the test where the answer isn't the one that has to come, or memory was wanted.
+/// Ends the run where the answer isn't the one that has to come, or memory was wanted.
 fn compare_answers(
     answer: &Result<Effect, Refusal>,
     expected: &Result<Effect, Refusal>,
@@ -180,7 +179,8 @@ fn play(alloc: Global, run: &Run, twins: &mut Twins, answers: &mut Answers) -> R
     Ok(())
 }
 
-fn compare(alloc: Global, run: &Run, answers: &mut Answers) -> Result<(), Stop> {
+/// Both worlds answer the same in a run, and record the same. Counts the answers.
+pub fn compare(alloc: Global, run: &Run, answers: &mut Answers) -> Result<(), Stop> {
     match both_of(alloc, run) {
         Ok(mut twins) => play(alloc, run, &mut twins, answers),
         Err(stop) => Err(stop),
@@ -212,7 +212,7 @@ fn of_three(seed: u64, reads: ReadMode) -> Run<'static> {
 
 /// The runs of a seed: five replicas and three, full reads and short ones, one value and many, quorums
 /// of different votes, few calls, and few messages.
-fn runs(seed: u64) -> [Run<'static>; 7] {
+pub fn runs(seed: u64) -> [Run<'static>; 7] {
     [
         of_five(seed, ReadMode::Full),
         of_five(seed, ReadMode::Short),
@@ -237,20 +237,4 @@ fn runs(seed: u64) -> [Run<'static>; 7] {
             ..of_three(seed, ReadMode::Full)
         },
     ]
-}
-
-#[test]
-fn both_worlds_answer_the_same(rt: HostRuntime) -> Result<(), Stop> {
-    let mut answers = Answers::none();
-    for seed in 1..4 {
-        for run in &runs(seed) {
-            compare(rt.alloc(), run, &mut answers)?;
-        }
-    }
-    for number in (1..14).chain(16..30) {
-        if answers.count(number) == 0 {
-            return Err(Stop::NeverCame(number));
-        }
-    }
-    Ok(())
 }

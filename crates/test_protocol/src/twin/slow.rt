@@ -5,27 +5,27 @@ mod replicas;
 mod rows;
 mod step_conditions;
 
-use crate::stop::Stop;
+use crate::twin::stop::Stop;
 use client_phases::Phase;
-pub(crate) use clients::Rules;
+pub use clients::Rules;
 use clients::SlowClient;
 use network::Message;
 use replicas::SlowReplica;
-pub(crate) use rows::SlowRow;
+pub use rows::SlowRow;
 use std::alloc::Global;
 use tag::{ClientId, ReplicaId};
 use world_steps::{Effect, Refusal, Step};
 
 /// A message with the count of its copies: 0 once it is spent.
 #[derive(Drop)]
-pub(crate) struct SlowFlight {
+pub struct SlowFlight {
     message: Message,
     copies: u32,
 }
 
 /// The rules and limits, the clients that joined, the replicas, all messages by number, and the record.
 #[derive(Drop)]
-pub(crate) struct SlowWorld {
+pub struct SlowWorld {
     alloc: Global,
     rules: Rules,
     calls: u32,
@@ -38,12 +38,7 @@ pub(crate) struct SlowWorld {
 
 impl SlowWorld {
     /// Before the first step: no client, all replicas up and empty, nothing sent, nothing recorded.
-    pub(crate) fn new(
-        alloc: Global,
-        rules: Rules,
-        calls: u32,
-        limit: u32,
-    ) -> Result<SlowWorld, Stop> {
+    pub fn new(alloc: Global, rules: Rules, calls: u32, limit: u32) -> Result<SlowWorld, Stop> {
         match replicas::all(alloc, rules.votes.len()) {
             Ok(replicas) => Ok(SlowWorld {
                 alloc,
@@ -60,16 +55,12 @@ impl SlowWorld {
     }
 
     /// The record.
-    pub(crate) fn rows(&self) -> &[SlowRow] {
+    pub fn rows(&self) -> &[SlowRow] {
         &self.rows
     }
 
     /// Takes a step: refuses it by the table, or moves. What it answers goes into `answer`.
-    pub(crate) fn take(
-        &mut self,
-        step: &Step,
-        answer: &mut Result<Effect, Refusal>,
-    ) -> Result<(), Stop> {
+    pub fn take(&mut self, step: &Step, answer: &mut Result<Effect, Refusal>) -> Result<(), Stop> {
         *answer = match self.refusal(step) {
             Some(refusal) => Err(refusal),
             None => Ok(self.moved(step)?),

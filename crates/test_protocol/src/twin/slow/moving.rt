@@ -3,7 +3,7 @@ use super::clients::SlowClient;
 use super::replicas::SlowReplica;
 use super::rows::SlowRow;
 use super::{SlowFlight, SlowWorld};
-use crate::stop::Stop;
+use crate::twin::stop::Stop;
 use client_phases::{Phase, Taken};
 use network::Message;
 use replica::{Reply, Request};
