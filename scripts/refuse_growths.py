@@ -15,8 +15,8 @@ and the lines may end.
 - abd run: with a refusal it writes a history that justify and check say yes of, and of its callers no more is said than that a call
   was refused, or that one was unavailable (a replica's thread may have met the refusal); or status 4, nothing on standard output, and
   after such lines one that names memory or a thread.
-- the row programs: each row alone. What is said of it is what is expected, up to a line that names memory, or a step that the program
-  couldn't make, or to the program's end.
+- the row programs: each row alone, but none of limits.rows, whose runs take too long. What is said of it is what is expected, up to a line that
+  names memory, or a step that the program couldn't make, or to the program's end.
 - store_example: a key that it names has the verdict yes, whatever was refused.
 - refused_calls, a crate in the folder that REFUSED_CALLS names: each of its tests. It passes (it calls again after a refused one, and compares whole
   worlds, pools, replicas, clients and histories as they were before the call and after it, and verdicts), or it ends early, since an allocation
@@ -45,6 +45,8 @@ MORE = 1000
 # What a row program says where it couldn't go on for want of memory.
 WANT = "(?i)memory|NO SUCH |not understood"
 ROWS = ["test_files", "test_protocol", "test_records"]
+# Files of rows that are left out.
+LEFT_OUT = ["limits.rows"]
 # The tests that are gone over, by what their names have.
 TESTS = {"refused_calls": "refused_growth"}
 
@@ -245,7 +247,7 @@ def rows(library, top, name):
     folder = f"{top}/crates/{name}"
     total = equal = left = 0
     with open(f"{folder}/args", encoding="utf-8") as file:
-        files = file.read().split()
+        files = [data for data in file.read().split() if data not in LEFT_OUT]
     for data in files:
         with open(f"{folder}/data/{data}", encoding="utf-8") as file:
             blocks = file.read().split("\n### ")[1:]

@@ -12,6 +12,7 @@ mod devices;
 mod feeding;
 mod formats;
 mod kept;
+mod limits;
 mod names;
 mod notation;
 mod readings;
@@ -23,6 +24,7 @@ use contents::{say_history_row, say_orders_row, say_script_row, say_writers_row}
 use counts::{say_counted_reads, say_counted_writes, say_faults, say_other_faults};
 use feeding::say_fed;
 use kept::{say_kept_reads, say_kept_sizes};
+use limits::say_whole_record;
 use names::say_names;
 use readings::{Format, say_cuts, say_files_read};
 use std::process::ExitCode;
@@ -43,6 +45,7 @@ fn say_file_row(rt: &(impl Threads + Sync), out: &mut Answer, asked: Asked<'_>) 
         "script" | "steps" => say_script_row(rt, out, asked),
         "writers" => say_writers_row(rt, out, asked.lines),
         "cuts" => say_cuts(rt, out, asked),
+        "whole-record" => say_whole_record(rt, out),
         _ => out.push("NO SUCH KIND OF ROW\n"),
     }
 }

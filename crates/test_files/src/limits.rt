@@ -1,16 +1,11 @@
-//! A record of as many calls as there may be: it is made, written, read again, and checked.
-#![tactic(auto)]
-
+//! Rows at the limits: a record of as many calls as there may be is made, written, read again, and checked.
 mod making;
 
-use crate::making::{CALLS, KEYS, one_call_more, whole_record};
+use crate::formats::{Counting, read_history, write_history};
 use certificate_check::{Verdict, check_part};
-use counted_devices::Counting;
-use file_format::write_history;
-use history_file::read_history;
+use making::{CALLS, KEYS, one_call_more, whole_record};
 use recorder::{History, Part};
 use std::alloc::Global;
-use std::process::ExitCode;
 use std::thread::Threads;
 use test_rows::{Answer, Pieces};
 use witness_order::order_of;
@@ -106,22 +101,13 @@ fn say_full(out: &mut Answer, history: &mut History) {
     }
 }
 
-/// Says what came of the record.
-fn say(rt: &(impl Threads + Sync), out: &mut Answer) {
+/// Says what comes of a record of as many calls as there may be.
+pub fn say_whole_record(rt: &(impl Threads + Sync), out: &mut Answer) {
     match whole_record(out.alloc()) {
         Some(mut history) => {
             say_full(out, &mut history);
             say_file(rt, out, &history);
         }
         None => out.push("no record\n"),
-    }
-}
-
-fn main(rt: HostRuntime) -> ExitCode {
-    let mut out = Answer::new(rt.alloc());
-    say(&rt, &mut out);
-    match out.text() {
-        Ok(text) if rt.print(text.as_str()).is_ok() => ExitCode::SUCCESS,
-        _ => ExitCode::FAILURE,
     }
 }
