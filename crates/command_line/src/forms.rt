@@ -20,145 +20,182 @@ use clap::Command;
 use load::ranges::{CALLERS, CALLS, FAULTS, KEYS, ROUNDS};
 use std::alloc::{AllocError, Global};
 
+/// A row of a table of words, whose values call no function: the word's name, what help calls what
+/// stands after it and its default, if something stands there, what it is, and what help says of it.
+macro_rules! command_word {
+    ($name:expr, $takes:expr, $help:expr) => {
+        command_word!($name, "", None, $takes, $help)
+    };
+    ($name:expr, $value:expr, $default:expr, $takes:expr, $help:expr) => {
+        Word {
+            name: $name,
+            value: $value,
+            default: $default,
+            takes: $takes,
+            help: $help,
+        }
+    };
+}
+
+/// The words of `abd check`.
+static CHECK_WORDS: [Word<'static>; 4] = [
+    command_word!("HISTORY", Argument, help::HISTORY),
+    command_word!("ORDERS", Argument, help::ORDERS),
+    command_word!("workers", "N", Some("1"), Number(WORKERS), help::WORKERS),
+    command_word!("json", Nothing, help::JSON),
+];
+
 /// `abd check HISTORY ORDERS [--workers N] [--json]`.
 fn check_words<'a>(alloc: Global) -> Result<Command<'a>, AllocError>
     ensures { IfOk result (IsForm check_app) }
 {
-    let words = [
-        Word::new("HISTORY", Argument, help::HISTORY),
-        Word::new("ORDERS", Argument, help::ORDERS),
-        Word::option("workers", "N", Some("1"), Number(WORKERS), help::WORKERS),
-        Word::new("json", Nothing, help::JSON),
-    ];
-    command_of(alloc, "check", help::CHECK, &words)
+    command_of(alloc, "check", help::CHECK, &CHECK_WORDS)
 }
+
+/// The words of `abd decide`.
+static DECIDE_WORDS: [Word<'static>; 4] = [
+    command_word!("HISTORY", Argument, help::HISTORY),
+    command_word!("key", "KEY", None, Texts, help::DECIDED_KEYS),
+    command_word!("most", "N", KEYS_WORD, Number(SHOWN_KEYS), help::REASONS),
+    command_word!("json", Nothing, help::JSON),
+];
 
 /// `abd decide HISTORY [--key KEY]... [--most N] [--json]`.
 fn decide_words<'a>(alloc: Global) -> Result<Command<'a>, AllocError>
     ensures { IfOk result (IsForm decide_app) }
 {
-    let words = [
-        Word::new("HISTORY", Argument, help::HISTORY),
-        Word::option("key", "KEY", None, Texts, help::DECIDED_KEYS),
-        Word::option("most", "N", KEYS_WORD, Number(SHOWN_KEYS), help::REASONS),
-        Word::new("json", Nothing, help::JSON),
-    ];
-    command_of(alloc, "decide", help::DECIDE, &words)
+    command_of(alloc, "decide", help::DECIDE, &DECIDE_WORDS)
 }
+
+/// The words of `abd draw`.
+static DRAW_WORDS: [Word<'static>; 8] = [
+    command_word!("HISTORY", Argument, help::HISTORY),
+    command_word!("ORDERS", FreeArgument, help::ORDERS),
+    command_word!("by", "HOW", None, Text, help::DRAWN_BY),
+    command_word!("key", "KEY", None, Text, help::DRAWN_KEY),
+    command_word!("most", "N", None, Number(SHOWN_KEYS), help::PICTURES),
+    command_word!("calls", "N", CALLS_WORD, Number(SHOWN_CALLS), help::CALLS),
+    command_word!("around", "CALL", None, Number(ANY_NUMBER), help::AROUND),
+    command_word!("whole", Nothing, help::WHOLE),
+];
 
 /// `abd draw HISTORY [ORDERS] [--by HOW] [--key KEY] [--most N] [--calls N] [--around CALL] [--whole]`.
 fn draw_words<'a>(alloc: Global) -> Result<Command<'a>, AllocError>
     ensures { IfOk result (IsForm draw_app) }
 {
-    let words = [
-        Word::new("HISTORY", Argument, help::HISTORY),
-        Word::new("ORDERS", FreeArgument, help::ORDERS),
-        Word::option("by", "HOW", None, Text, help::DRAWN_BY),
-        Word::option("key", "KEY", None, Text, help::DRAWN_KEY),
-        Word::option("most", "N", None, Number(SHOWN_KEYS), help::PICTURES),
-        Word::option("calls", "N", CALLS_WORD, Number(SHOWN_CALLS), help::CALLS),
-        Word::option("around", "CALL", None, Number(ANY_NUMBER), help::AROUND),
-        Word::new("whole", Nothing, help::WHOLE),
-    ];
-    command_of(alloc, "draw", help::DRAW, &words)
+    command_of(alloc, "draw", help::DRAW, &DRAW_WORDS)
 }
+
+/// The words of `abd explain`.
+static EXPLAIN_WORDS: [Word<'static>; 4] = [
+    command_word!("HISTORY", Argument, help::HISTORY),
+    command_word!("ORDERS", FreeArgument, help::ORDERS),
+    command_word!("key", "KEY", None, Text, help::KEY),
+    command_word!("most", "N", None, Number(SHOWN_KEYS), help::MOST),
+];
 
 /// `abd explain HISTORY [ORDERS] [--key KEY] [--most N]`.
 fn explain_words<'a>(alloc: Global) -> Result<Command<'a>, AllocError>
     ensures { IfOk result (IsForm explain_app) }
 {
-    let words = [
-        Word::new("HISTORY", Argument, help::HISTORY),
-        Word::new("ORDERS", FreeArgument, help::ORDERS),
-        Word::option("key", "KEY", None, Text, help::KEY),
-        Word::option("most", "N", None, Number(SHOWN_KEYS), help::MOST),
-    ];
-    command_of(alloc, "explain", help::EXPLAIN, &words)
+    command_of(alloc, "explain", help::EXPLAIN, &EXPLAIN_WORDS)
 }
+
+/// The words of `abd justify`.
+static JUSTIFY_WORDS: [Word<'static>; 3] = [
+    command_word!("HISTORY", Argument, help::NOTED),
+    command_word!("by", "HOW", None, Text, help::MADE_BY),
+    command_word!("unchecked", Nothing, help::UNCHECKED),
+];
 
 /// `abd justify HISTORY [--by HOW] [--unchecked]`.
 fn justify_words<'a>(alloc: Global) -> Result<Command<'a>, AllocError>
     ensures { IfOk result (IsForm justify_app) }
 {
-    let words = [
-        Word::new("HISTORY", Argument, help::NOTED),
-        Word::option("by", "HOW", None, Text, help::MADE_BY),
-        Word::new("unchecked", Nothing, help::UNCHECKED),
-    ];
-    command_of(alloc, "justify", help::JUSTIFY, &words)
+    command_of(alloc, "justify", help::JUSTIFY, &JUSTIFY_WORDS)
 }
+
+/// The words of `abd monitor`.
+static MONITOR_WORDS: [Word<'static>; 4] = [
+    command_word!("FILE", FreeArgument, help::RECORD),
+    command_word!("all", Nothing, help::ALL_KEYS),
+    command_word!(
+        "give-up",
+        "N",
+        Some("1000000"),
+        Number(GIVE_UP),
+        help::GIVE_UP
+    ),
+    command_word!("json", Nothing, help::OBJECTS),
+];
 
 /// `abd monitor [FILE] [--all] [--give-up N] [--json]`.
 fn monitor_words<'a>(alloc: Global) -> Result<Command<'a>, AllocError>
     ensures { IfOk result (IsForm monitor_app) }
 {
-    let words = [
-        Word::new("FILE", FreeArgument, help::RECORD),
-        Word::new("all", Nothing, help::ALL_KEYS),
-        Word::option(
-            "give-up",
-            "N",
-            Some("1000000"),
-            Number(GIVE_UP),
-            help::GIVE_UP,
-        ),
-        Word::new("json", Nothing, help::OBJECTS),
-    ];
-    command_of(alloc, "monitor", help::MONITOR, &words)
+    command_of(alloc, "monitor", help::MONITOR, &MONITOR_WORDS)
 }
+
+/// The words of `abd simulate`.
+static SIMULATE_WORDS: [Word<'static>; 1] = [command_word!("SCRIPT", Argument, help::SCRIPT)];
 
 /// `abd simulate SCRIPT`.
 fn simulate_words<'a>(alloc: Global) -> Result<Command<'a>, AllocError>
     ensures { IfOk result (IsForm simulate_app) }
 {
-    let words = [Word::new("SCRIPT", Argument, help::SCRIPT)];
-    command_of(alloc, "simulate", help::SIMULATE, &words)
+    command_of(alloc, "simulate", help::SIMULATE, &SIMULATE_WORDS)
 }
+
+/// The words of `abd split`.
+static SPLIT_WORDS: [Word<'static>; 3] = [
+    command_word!("FILE", FreeArgument, help::RECORD),
+    command_word!("parts", "N", None, NeededNumber(PARTS), help::PARTS),
+    command_word!("into", "DIR", None, NeededText, help::INTO),
+];
 
 /// `abd split [FILE] --parts N --into DIR`.
 fn split_words<'a>(alloc: Global) -> Result<Command<'a>, AllocError>
     ensures { IfOk result (IsForm split_app) }
 {
-    let words = [
-        Word::new("FILE", FreeArgument, help::RECORD),
-        Word::option("parts", "N", None, NeededNumber(PARTS), help::PARTS),
-        Word::option("into", "DIR", None, NeededText, help::INTO),
-    ];
-    command_of(alloc, "split", help::SPLIT, &words)
+    command_of(alloc, "split", help::SPLIT, &SPLIT_WORDS)
 }
+
+/// The words of `abd trace`.
+static TRACE_WORDS: [Word<'static>; 3] = [
+    command_word!("SCRIPT", Argument, help::SCRIPT),
+    command_word!("most", "N", None, Number(ANY_NUMBER), help::LINES),
+    command_word!("draw", Nothing, help::MESSAGES),
+];
 
 /// `abd trace SCRIPT [--most N] [--draw]`.
 fn trace_words<'a>(alloc: Global) -> Result<Command<'a>, AllocError>
     ensures { IfOk result (IsForm trace_app) }
 {
-    let words = [
-        Word::new("SCRIPT", Argument, help::SCRIPT),
-        Word::option("most", "N", None, Number(ANY_NUMBER), help::LINES),
-        Word::new("draw", Nothing, help::MESSAGES),
-    ];
-    command_of(alloc, "trace", help::TRACE, &words)
+    command_of(alloc, "trace", help::TRACE, &TRACE_WORDS)
 }
+
+/// The words of `abd run`.
+static RUN_WORDS: [Word<'static>; 13] = [
+    command_word!("replicas", "N", Some("3"), Number(REPLICAS), run::REPLICAS),
+    command_word!("callers", "C", Some("4"), Number(CALLERS), run::CALLERS),
+    command_word!("calls", "T", Some("50"), Number(CALLS), run::CALLS),
+    command_word!("keys", "K", Some("2"), Number(KEYS), run::KEYS),
+    command_word!("rounds", "R", Some("1000"), Number(ROUNDS), run::ROUNDS),
+    command_word!("drop", "D", Some("0"), Number(FAULTS), run::DROP),
+    command_word!("double", "E", Some("0"), Number(FAULTS), run::DOUBLE),
+    command_word!("halls", "H", Some("1"), Number(HALLS), run::HALLS),
+    command_word!("show", "N", None, Number(SHOWN_HALL), run::SHOW),
+    command_word!("reads", "HOW", Some("full"), Text, run::READS),
+    command_word!("votes", "DIGITS", None, Text, run::VOTES),
+    command_word!("ask", "A", None, Number(VOTES), run::ASK),
+    command_word!("put", "P", None, Number(VOTES), run::PUT),
+];
 
 /// `abd run` with its options.
 fn run_words<'a>(alloc: Global) -> Result<Command<'a>, AllocError>
     ensures { IfOk result (IsForm run_app) }
 {
-    let words = [
-        Word::option("replicas", "N", Some("3"), Number(REPLICAS), run::REPLICAS),
-        Word::option("callers", "C", Some("4"), Number(CALLERS), run::CALLERS),
-        Word::option("calls", "T", Some("50"), Number(CALLS), run::CALLS),
-        Word::option("keys", "K", Some("2"), Number(KEYS), run::KEYS),
-        Word::option("rounds", "R", Some("1000"), Number(ROUNDS), run::ROUNDS),
-        Word::option("drop", "D", Some("0"), Number(FAULTS), run::DROP),
-        Word::option("double", "E", Some("0"), Number(FAULTS), run::DOUBLE),
-        Word::option("halls", "H", Some("1"), Number(HALLS), run::HALLS),
-        Word::option("show", "N", None, Number(SHOWN_HALL), run::SHOW),
-        Word::option("reads", "HOW", Some("full"), Text, run::READS),
-        Word::option("votes", "DIGITS", None, Text, run::VOTES),
-        Word::option("ask", "A", None, Number(VOTES), run::ASK),
-        Word::option("put", "P", None, Number(VOTES), run::PUT),
-    ];
-    command_of(alloc, "run", run::RUN, &words)
+    command_of(alloc, "run", run::RUN, &RUN_WORDS)
 }
 
 /// `abd` by itself.

@@ -1,5 +1,5 @@
 //! The words of a command, as clap takes them.
-ghost use Rattle.std.specs.Prelude.{◌≡◌, [], None, codes, false, map, IfOk};
+ghost use Rattle.std.specs.Prelude.{◌≡◌, false, map, IfOk};
 ghost use Rattle.clap.specs.Words.{new_rule, rule_of};
 ghost use Rattle.command_line.specs.CommandWords.{IsForm, command_app, number_option, rule_by, rule_of_word};
 
@@ -37,15 +37,15 @@ pub(crate) enum Takes {
 #[derive(Clone, Copy)]
 pub(crate) struct Word<'a> {
     /// Its name.
-    name: &'a str,
+    pub(crate) name: &'a str,
     /// What help calls what stands after it; nothing of an argument.
-    value: &'a str,
+    pub(crate) value: &'a str,
     /// What stands there if it isn't given; `None` if nothing does.
-    default: Option<&'a str>,
+    pub(crate) default: Option<&'a str>,
     /// What it is, and what stands in its place or after it.
-    takes: Takes,
+    pub(crate) takes: Takes,
     /// What help says of it.
-    help: &'a str,
+    pub(crate) help: &'a str,
 }
 
 /// The option of that name, after which one of these numbers stands, which help calls so.
@@ -61,36 +61,6 @@ fn numbered<'a>(named: Arg<'a>, name: &'a str, value: &'a str, range: NumberRang
 }
 
 impl<'a> Word<'a> {
-    /// The argument, or the option after which nothing stands, of that name.
-    pub(crate) fn new(name: &'a str, takes: Takes, help: &'a str) -> Word<'a>
-        ensures name { result.name ≡ name.entry }
-        ensures takes { result.takes ≡ takes }
-        ensures default { result.default ≡ None }
-    {
-        Word::option(name, "", None, takes, help)
-    }
-
-    /// The option of that name, after which something stands that help calls so.
-    pub(crate) fn option(
-        name: &'a str,
-        value: &'a str,
-        default: Option<&'a str>,
-        takes: Takes,
-        help: &'a str,
-    ) -> Word<'a>
-        ensures name { result.name ≡ name.entry }
-        ensures takes { result.takes ≡ takes }
-        ensures default { result.default ≡ default.entry }
-    {
-        Word {
-            name,
-            value,
-            default,
-            takes,
-            help,
-        }
-    }
-
     /// The word without its default.
     fn bare(&self, alloc: Global) -> Arg<'a>
         ensures rule { rule_of result ≡ rule_by self.now.takes self.now.name.now }

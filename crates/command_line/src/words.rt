@@ -2,9 +2,8 @@
 ghost use Rattle.std.specs.Prelude.{◌≡◌, IfErr, IfOk, MatchResult, codes, map, string_bytes};
 ghost use Rattle.clap.specs.Words.{kind_of, subcommand_rows_of};
 ghost use Rattle.command_line.specs.Reading.{Finds, FindsOrLacks, IsNone, rows_in};
-ghost use Rattle.command_line.specs.Words.{Asks, AsksAround, AsksBy, AsksCheck, AsksDecision};
-ghost use Rattle.command_line.specs.Words.{AsksDrawing, AsksDrawnBy, AsksForm, AsksKeys, AsksMonitor};
-ghost use Rattle.command_line.specs.Words.{AsksMost, AsksNothing, AsksOrders, AsksSplit, AsksWhole, HasWords};
+ghost use Rattle.command_line.specs.Words.{Asks, AsksAround, AsksBy, AsksDrawnBy, AsksForm};
+ghost use Rattle.command_line.specs.Words.{AsksKeys, AsksMost, AsksNothing, AsksWhole, HasWords};
 ghost use Rattle.command_line.specs.Words.{IsSaid, IsUsageOf, MakesAs, MakesNothing, MakesOf};
 
 use crate::asked::{
@@ -62,9 +61,9 @@ fn form_in(matches: &ArgMatches<'_>) -> Lines
     }
 }
 
-/// What the words after `check` ask for.
-fn check_in<'a>(matches: &ArgMatches<'a>) -> Result<CheckAsked<'a>, WordsFault>
-    ensures { Finds result (AsksCheck (rows_in matches.now)) }
+/// `check`, of the words after its name.
+fn check_in<'a>(matches: &ArgMatches<'a>) -> Result<Command<'a>, WordsFault>
+    ensures { Finds result (MakesAs (codes "check") (rows_in matches.now)) }
 {
     let history = needed_in(matches, "HISTORY")?;
     let orders = needed_in(matches, "ORDERS")?;
@@ -73,28 +72,29 @@ fn check_in<'a>(matches: &ArgMatches<'a>) -> Result<CheckAsked<'a>, WordsFault>
         unreachable!()
     };
     let form = form_in(matches);
-    Ok(CheckAsked {
+    Ok(Command::Check(CheckAsked {
         history,
         orders,
         workers,
         form,
-    })
+    }))
 }
 
-/// What the words after `decide` ask for.
-fn decide_in<'a>(alloc: Global, matches: &ArgMatches<'a>) -> Result<DecideAsked<'a>, WordsFault>
-    ensures { FindsOrLacks result (AsksDecision (rows_in matches.now)) }
+/// `decide`, of the words after its name.
+fn decide_in<'a>(alloc: Global, matches: &ArgMatches<'a>) -> Result<Command<'a>, WordsFault>
+    ensures { FindsOrLacks result (MakesAs (codes "decide") (rows_in matches.now)) }
 {
     let history = needed_in(matches, "HISTORY")?;
     let most = number_in(matches, "most", SHOWN_KEYS)? as u16;
     let form = form_in(matches);
     let keys = texts_in(alloc, matches, "key")?;
-    Ok(DecideAsked {
+    let asked = DecideAsked {
         history,
         keys,
         most,
         form,
-    })
+    };
+    Ok(Command::Decide(asked))
 }
 
 /// The number of the call that is named, if one is.
@@ -170,49 +170,58 @@ fn whole_in(matches: &ArgMatches<'_>) -> Result<bool, WordsFault>
     Ok(whole)
 }
 
-/// What the words after `draw` ask for.
-fn draw_in<'a>(matches: &ArgMatches<'a>) -> Result<DrawAsked<'a>, WordsFault>
-    ensures { Finds result (AsksDrawing (rows_in matches.now)) }
+/// `draw`, of the words after its name.
+fn draw_in<'a>(matches: &ArgMatches<'a>) -> Result<Command<'a>, WordsFault>
+    ensures { Finds result (MakesAs (codes "draw") (rows_in matches.now)) }
 {
     let keys = keys_in(matches)?;
     let by = drawn_by(matches)?;
     let calls = number_in(matches, "calls", SHOWN_CALLS)?;
     let around = around_in(matches)?;
     let whole = whole_in(matches)?;
-    Ok(DrawAsked {
+    Ok(Command::Draw(DrawAsked {
         keys,
         by,
         calls: calls as u16,
         around,
         whole,
-    })
+    }))
 }
 
-/// What the words after `justify` ask for.
-fn justify_in<'a>(matches: &ArgMatches<'a>) -> Result<JustifyAsked<'a>, WordsFault>
-    ensures { Finds result (AsksOrders (rows_in matches.now)) }
+/// `explain`, of the words after its name.
+fn explain_in<'a>(matches: &ArgMatches<'a>) -> Result<Command<'a>, WordsFault>
+    ensures { Finds result (MakesAs (codes "explain") (rows_in matches.now)) }
+{
+    let asked = keys_in(matches)?;
+    Ok(Command::Explain(asked))
+}
+
+/// `justify`, of the words after its name.
+fn justify_in<'a>(matches: &ArgMatches<'a>) -> Result<Command<'a>, WordsFault>
+    ensures { Finds result (MakesAs (codes "justify") (rows_in matches.now)) }
 {
     let history = needed_in(matches, "HISTORY")?;
     let by = by_in(matches)?;
     let unchecked = has_flag(matches, "unchecked");
-    Ok(JustifyAsked {
+    let asked = JustifyAsked {
         history,
         by,
         unchecked,
-    })
+    };
+    Ok(Command::Justify(asked))
 }
 
-/// What the words after `monitor` ask for.
-fn monitor_in<'a>(matches: &ArgMatches<'a>) -> Result<MonitorAsked<'a>, WordsFault>
-    ensures { Finds result (AsksMonitor (rows_in matches.now)) }
+/// `monitor`, of the words after its name.
+fn monitor_in<'a>(matches: &ArgMatches<'a>) -> Result<Command<'a>, WordsFault>
+    ensures { Finds result (MakesAs (codes "monitor") (rows_in matches.now)) }
 {
     let give_up = number_in(matches, "give-up", GIVE_UP)?;
-    Ok(MonitorAsked {
+    Ok(Command::Monitor(MonitorAsked {
         history: text_in(matches, "FILE"),
         all: has_flag(matches, "all"),
         give_up,
         form: form_in(matches),
-    })
+    }))
 }
 
 /// `simulate`, of the words after its name.
@@ -223,17 +232,17 @@ fn simulate_in<'a>(matches: &ArgMatches<'a>) -> Result<Command<'a>, WordsFault>
     Ok(Command::Simulate { script })
 }
 
-/// What the words after `split` ask for.
-fn split_in<'a>(matches: &ArgMatches<'a>) -> Result<SplitAsked<'a>, WordsFault>
-    ensures { Finds result (AsksSplit (rows_in matches.now)) }
+/// `split`, of the words after its name.
+fn split_in<'a>(matches: &ArgMatches<'a>) -> Result<Command<'a>, WordsFault>
+    ensures { Finds result (MakesAs (codes "split") (rows_in matches.now)) }
 {
     let parts = number_in(matches, "parts", PARTS)? as u16;
     let into = needed_in(matches, "into")?;
-    Ok(SplitAsked {
+    Ok(Command::Split(SplitAsked {
         history: text_in(matches, "FILE"),
         parts,
         into,
-    })
+    }))
 }
 
 /// `trace`, of the words after its name.
@@ -259,34 +268,18 @@ fn made_in<'a>(
 ) -> Result<Command<'a>, WordsFault>
     ensures { FindsOrLacks result (MakesAs name.now (rows_in matches.now)) }
 {
-    if name == "check" {
-        match check_in(matches) {
-            Ok(asked) => Ok(Command::Check(asked)),
-            Err(fault) => Err(fault),
-        }
-    } else if name == "decide" {
-        match decide_in(alloc, matches) {
-            Ok(asked) => Ok(Command::Decide(asked)),
-            Err(fault) => Err(fault),
-        }
-    } else if name == "draw" {
-        Ok(Command::Draw(draw_in(matches)?))
-    } else if name == "explain" {
-        Ok(Command::Explain(keys_in(matches)?))
-    } else if name == "justify" {
-        Ok(Command::Justify(justify_in(matches)?))
-    } else if name == "monitor" {
-        Ok(Command::Monitor(monitor_in(matches)?))
-    } else if name == "simulate" {
-        simulate_in(matches)
-    } else if name == "split" {
-        Ok(Command::Split(split_in(matches)?))
-    } else if name == "trace" {
-        trace_in(matches)
-    } else if name == "run" {
-        Ok(Command::Run(run_in(alloc, matches)?))
-    } else {
-        Err(WordsFault::NoCommand)
+    match name {
+        "check" => check_in(matches),
+        "decide" => decide_in(alloc, matches),
+        "draw" => draw_in(matches),
+        "explain" => explain_in(matches),
+        "justify" => justify_in(matches),
+        "monitor" => monitor_in(matches),
+        "run" => Ok(Command::Run(run_in(alloc, matches)?)),
+        "simulate" => simulate_in(matches),
+        "split" => split_in(matches),
+        "trace" => trace_in(matches),
+        _ => Err(WordsFault::NoCommand),
     }
 }
 
