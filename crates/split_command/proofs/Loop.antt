@@ -1,8 +1,8 @@
 -- A history that is split block by block.
 use Rattle.std.proofs.Common.{ℕ, ◌≡◌, ◌<◌, ◌≤◌, ◌+◌, ◌++◌, ◌^◌, List, [], None, Option, Result, Ok, Err, IfErr, IfOk, length}
-use Rattle.std.specs.Io.KnownBytes.{Consumes, IsAtEnd, Keeps}
+use Rattle.std.specs.Io.KnownBytes.{Consumes, Keeps}
 use Rattle.counted_devices.specs.DeviceStates.{DeviceStates}
-use Rattle.counted_devices.specs.Deliveries.{Delivers, Holds}
+use Rattle.counted_devices.specs.Deliveries.{Delivers, Holds, HoldsAll}
 use Rattle.counted_devices.specs.FirstFaults.{IsUnderWay}
 use Rattle.counted_devices.proofs.Consuming.{Consumes-keeps}
 use Rattle.counted_devices.proofs.Delivering.{Delivers-more, finish_fault, stops_now}
@@ -19,7 +19,7 @@ use Rattle.split_command.specs.declared.pieces.Pieces.{Pieces}
 use Rattle.split_command.specs.declared.splitting.Split.{Split}
 use Rattle.split_command.specs.declared.splitting.Stopped.{Stopped}
 use Rattle.split_command.specs.declared.splitting.Stopped.TheVariants as stopped
-use Rattle.split_command.specs.Endings.{EndsAs, EndsIn, GoesOn, HasPieces, Stands}
+use Rattle.split_command.specs.Endings.{EndsAs, EndsIn, GoesOn, HasPieces, IsFedBy, Stands}
 use Rattle.split_command.specs.Written.{HasWritten}
 use Rattle.split_command.proofs.Counting.{few_rows}
 
@@ -66,24 +66,29 @@ module _ {W : Type 0} (contents : W → Option (List ℕ)) where
       Holds-device (file_rules long_history_format) (MakesLongHistory (HasWritten contents)) sound a c feed line
       (record { bytes = h.bytes; given = Consumes-keeps a b c h.bytes h.given keeps; fact = h.fact }) told
 
-  module _ (parts : ℕ) (reader : DeviceStates) (feed : Fed) where
+  module _ (reader : DeviceStates) (feed : Fed) where
     -- the block has a fault, or the command stopped at it
     pub stops_at : (before : Option (List ℕ)) (block : List ℕ) (new : Fed) (why : Stopped) → Holds (Stands contents) reader.old before feed
         → Consumes before reader.new block
         → ((bytes : List ℕ) → Stands contents bytes feed → GoesOn contents (bytes ++ block) (Err why) new)
-        → EndsIn contents parts reader (Err why)
+        → IsFedBy contents reader (Err why) new
     stops_at before block new (stopped.Fault fault) h k goes =
         let P : List ℕ → Type 0 = λ bytes. Stands contents bytes feed in
         (stops_now (file_faults long_history_format) reader fault P before block h k goes).0
     stops_at before block new stopped.Memory h k goes = tt
     stops_at before block new stopped.Output h k goes = tt
 
+    -- what was stopped is not split
+    pub not_split : (parts : ℕ) (why : Stopped) → IsFedBy contents reader (Err why) feed → EndsIn contents parts reader (Err why)
+    not_split parts (stopped.Fault fault) h = h
+    not_split parts stopped.Memory h = tt
+    not_split parts stopped.Output h = tt
+
     -- the reader is at its end
-    pub ends_in : (result : Result (Split W) Stopped) → Holds (Stands contents) reader.old reader.new feed → IsAtEnd reader.new
+    pub ends_in : (parts : ℕ) (result : Result (Split W) Stopped) → HoldsAll (Stands contents) reader feed
         → ((bytes : List ℕ) → Stands contents bytes feed → EndsAs contents parts bytes result) → EndsIn contents parts reader result
-    ends_in (Ok split) h end ends = record { bytes = h.bytes; given = h.given; fact = (end, ends h.bytes h.fact) }
-    ends_in (Err (stopped.Fault fault)) h end ends =
-        finish_fault (file_faults long_history_format) (Stands contents) (λ (_ : List ℕ) (_ : Unit {0}). Unit {0}) reader feed (Err fault)
-        (h, end) ends
-    ends_in (Err stopped.Memory) h end ends = tt
-    ends_in (Err stopped.Output) h end ends = tt
+    ends_in parts (Ok split) h ends = record { bytes = h.0.bytes; given = h.0.given; fact = (h.1, ends h.0.bytes h.0.fact) }
+    ends_in parts (Err (stopped.Fault fault)) h ends =
+        finish_fault (file_faults long_history_format) (Stands contents) (λ (_ : List ℕ) (_ : Unit {0}). Unit {0}) reader feed (Err fault) h ends
+    ends_in parts (Err stopped.Memory) h ends = tt
+    ends_in parts (Err stopped.Output) h ends = tt

@@ -3,7 +3,7 @@ use Rattle.std.specs.Prelude.{ℕ, ◌≡◌, List, Option, Result, Ok, Err, len
 use Rattle.std.specs.Io.KnownBytes.{IsAtEnd}
 use Rattle.cli.specs.Devices.{FileStates, ReceivesOrFails}
 use Rattle.cli.specs.FailureLines.{fault_line, file_words}
-use Rattle.counted_devices.specs.Deliveries.{Delivers}
+use Rattle.counted_devices.specs.Deliveries.{Delivers, HoldsAll}
 use Rattle.counted_devices.specs.DeviceStates.{DeviceStates}
 use Rattle.counted_devices.specs.FirstFaults.{FaultInAll, FaultSoFar, StopsFrom}
 use Rattle.recorder.specs.declared.row.Row.{Row}
@@ -59,6 +59,16 @@ module _ {W : Type 0} (contents : W → Option (List ℕ)) where
       FaultSoFar (file_faults long_history_format) bytes fault.line fault.kind
   GoesOn bytes (Err stopped.Memory) feed = Unit {0}
   GoesOn bytes (Err stopped.Output) feed = Unit {0}
+
+  -- the reader is at its end, and the feed stands for all that it gave; or the first fault is
+  -- answered
+  abbrev pub IsFedBy : DeviceStates → Result (Unit {0}) Stopped
+      → Feed (LongHistory (Pieces W)) LineFault → Type 0
+  IsFedBy reader (Ok done) feed = HoldsAll Stands reader feed
+  IsFedBy reader (Err (stopped.Fault fault)) feed =
+      StopsFrom (file_faults long_history_format) reader fault
+  IsFedBy reader (Err stopped.Memory) feed = Unit {0}
+  IsFedBy reader (Err stopped.Output) feed = Unit {0}
 
   -- at the end of the file it is split; or its first fault is answered
   abbrev pub EndsAs : ℕ → List ℕ → Result (Split W) Stopped → Type 0

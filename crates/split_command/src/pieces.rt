@@ -40,10 +40,11 @@ impl<W: CountedWrite + Drop> Pieces<W> {
         requires fresh { AreFresh W.contents writers.items }
         ensures { IfOk result (HasWritten W.contents []) }
     {
-        let splitter = RowSplitter::new(alloc, writers.len())?;
+        let parts = writers.len();
+        let files = PieceFiles::new(alloc, writers)?;
         Ok(Pieces {
-            splitter,
-            files: PieceFiles::new(alloc, writers)?,
+            splitter: RowSplitter::new(alloc, parts)?,
+            files,
             line: FIRST_LINE,
             has_failed: false,
         })
@@ -92,11 +93,17 @@ impl<W: CountedWrite + Drop> Pieces<W> {
             → HasWritten W.contents rows self → HasPieces W.contents parts rows split) }
         ensures failed { IfErr result (λ why. why ≡ Output) }
     {
-        if self.has_failed || self.files.count() != parts {
+        let Pieces {
+            splitter,
+            files,
+            has_failed,
+            ..
+        } = self;
+        let (calls, keys) = (splitter.begun(), splitter.key_count());
+        drop(splitter);
+        if has_failed || files.count() != parts {
             return Err(Stopped::Output);
         }
-        let (calls, keys) = (self.begun(), self.key_count());
-        let Pieces { files, .. } = self;
         match files.finish() {
             Ok(files) => Ok(Split { files, calls, keys }),
             Err(_) => Err(Stopped::Output),

@@ -1,9 +1,9 @@
 //! The command: it reads the history, block by block, and writes its pieces.
-ghost use Rattle.std.specs.Prelude.{◌≡◌, ◌≤◌, ◌<◌, ◌+◌, ◌++◌, ◌^◌, ℕ, List, length, IfErr, IfOk};
+ghost use Rattle.std.specs.Prelude.{◌≡◌, ◌≤◌, ◌<◌, ◌+◌, ◌++◌, ◌^◌, ℕ, [], List, length, IfErr, IfOk};
 ghost use Rattle.counted_devices.specs.DeviceStates.{states};
 ghost use Rattle.cli.specs.Devices.{file_states};
 ghost use Rattle.cli.specs.declared.status.Status.TheVariants.{Format};
-ghost use Rattle.split_command.specs.Endings.{EndsAs, EndsIn, GoesOn, IsFaultSaid, IsSplitIn, Stands};
+ghost use Rattle.split_command.specs.Endings.{EndsAs, EndsIn, GoesOn, IsFaultSaid, IsFedBy, IsSplitIn, Stands};
 ghost use Rattle.split_command.specs.PieceTexts.{AreFresh};
 
 use crate::pieces::Pieces;
@@ -119,7 +119,37 @@ fn end<W: CountedWrite + Drop + Send>(
     }
 }
 
-/// Splits what the reader gives, to its end.
+/// Splits what the reader gives, block by block, to its end.
+fn split_blocks<R, W, L>(
+    rt: &(impl Threads + Sync),
+    reader: &mut R,
+    block: &mut [u8],
+    feed: &mut RowsFeed<Pieces<W>>,
+    watch: &L,
+) -> Result<(), Stopped>
+where
+    R: CountedRead,
+    W: CountedWrite + Drop + Send,
+    L: Watch,
+    requires some { length block.old ≡ 1048576 }
+    requires begun { Stands W.contents [] feed.old }
+    ensures { IsFedBy W.contents (states R.remaining R.failures reader.old reader.new) result feed.new }
+{
+    'reads: loop {
+        match reader.read_counted(block) {
+            Ok(0) => return Ok(()),
+            Ok(count) => split_block(rt, feed, &block[..count], watch)?,
+            Err(_) => {
+                return Err(Stopped::Fault(FileFault {
+                    line: feed.line(),
+                    kind: FaultKind::Device,
+                }));
+            }
+        }
+    }
+}
+
+/// Splits what the reader gives, to its end, and ends the pieces.
 fn split_reader<R, W, L>(
     rt: &(impl Threads + Sync),
     alloc: Global,
@@ -139,19 +169,13 @@ where
     let Ok(mut bytes) = room(alloc) else {
         return Err(Stopped::Memory);
     };
-    let block = bytes.as_mut_slice();
     let parts = writers.len();
     let mut feed = RowsFeed::of(alloc, LongHistory::new(Pieces::new(alloc, writers)?));
-    'reads: loop {
-        match reader.read_counted(block) {
-            Ok(0) => return end(rt, feed, parts),
-            Ok(count) => split_block(rt, &mut feed, &block[..count], watch)?,
-            Err(_) => {
-                return Err(Stopped::Fault(FileFault {
-                    line: feed.line(),
-                    kind: FaultKind::Device,
-                }));
-            }
+    match split_blocks(rt, reader, bytes.as_mut_slice(), &mut feed, watch) {
+        Ok(()) => end(rt, feed, parts),
+        Err(stopped) => {
+            drop(feed);
+            Err(stopped)
         }
     }
 }

@@ -1,7 +1,7 @@
 use Rattle.std.proofs.Common.{◌≡◌, ◌≤◌, ◌-◌, ◌^◌, length}
 use Rattle.counted_devices.specs.Deliveries.{Holds}
 use Rattle.split_command.specs.Endings.{Stands}
-use Rattle.split_command.proofs.splitting.split_reader.Given as goal
+use Rattle.split_command.proofs.splitting.split_blocks.Given as goal
 
 abbrev pub invariant-reads : goal.invariant-reads
 invariant-reads g l = record {
