@@ -6,7 +6,7 @@ use Rattle.cli.specs.FailureLines.{fault_line, file_words}
 use Rattle.cli.specs.declared.outcome.Found.{Found}
 use Rattle.cli.specs.declared.outcome.Found.TheVariants.{Good, Refused, Undecided}
 use Rattle.command_line.specs.declared.lines.Lines.{Lines}
-use Rattle.counted_devices.specs.Deliveries.{Delivers}
+use Rattle.counted_devices.specs.Deliveries.{Delivers, HoldsAll}
 use Rattle.counted_devices.specs.DeviceStates.{DeviceStates}
 use Rattle.counted_devices.specs.FirstFaults.{FaultInAll, FaultSoFar, StopsFrom}
 use Rattle.counted_devices.specs.declared.read_fault.FaultKind.TheVariants as kind
@@ -143,6 +143,16 @@ module _ (reader writer : DeviceStates) (asked : Monitoring) where
   EndsIn (Err (stopped.Fault fault)) = StopsFrom (file_faults long_history_format) reader fault
   EndsIn (Err stopped.Memory) = Unit {0}
   EndsIn (Err stopped.Output) = Unit {0}
+
+  -- to the reader's end no key is refused that would end the command; or one is; or the first fault
+  -- is answered
+  abbrev pub IsJudgedTo : Result Bool Stopped → Feed (LongHistory (Option Taken)) LineFault → Type 0
+  IsJudgedTo (Ok false) feed = HoldsAll Stands reader feed × HasSent writer.old writer.new
+  IsJudgedTo (Ok true) feed = IsRefutedIn
+  IsJudgedTo (Err (stopped.Fault fault)) feed =
+      StopsFrom (file_faults long_history_format) reader fault
+  IsJudgedTo (Err stopped.Memory) feed = Unit {0}
+  IsJudgedTo (Err stopped.Output) feed = Unit {0}
 
 -- the file has that first fault, and that is said on standard error
 pub record IsFaultSaid (file : FileStates) (errors : DeviceStates) : Type 0 where

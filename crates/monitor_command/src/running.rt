@@ -1,10 +1,10 @@
 //! The command: it reads the file, block by block.
-ghost use Rattle.std.specs.Prelude.{◌≡◌, ◌<◌, IfOk, length};
+ghost use Rattle.std.specs.Prelude.{◌≡◌, ◌<◌, [], IfOk, length};
 ghost use Rattle.counted_devices.specs.DeviceStates.{states};
 ghost use Rattle.cli.specs.Devices.{file_states};
 ghost use Rattle.cli.specs.declared.status.Status.TheVariants.{Format, Good, Refused as Is_refused};
 ghost use Rattle.cli.specs.declared.status.Status.TheVariants.{Undecided as Is_undecided};
-ghost use Rattle.monitor_command.specs.Endings.{EndsIn, IsAtomicIn, IsFaultSaid, IsRefutedIn, IsUndecidedIn};
+ghost use Rattle.monitor_command.specs.Endings.{EndsIn, IsAtomicIn, IsFaultSaid, IsJudgedTo, IsRefutedIn, IsUndecidedIn, Stands};
 
 use crate::monitoring::{Monitoring, Watch};
 use crate::session::{Session, Stopped};
@@ -22,6 +22,45 @@ fn room(alloc: Global) -> Result<Vec<u8>, AllocError>
     ensures { IfOk result (λ room. length room.items ≡ 65536) }
 {
     vec![in alloc; 0u8; BLOCK]
+}
+
+/// Judges what the reader gives, block by block, to its end or to the first refusal. Whether a key is refused, so that
+/// the command ends.
+fn judge_blocks<R, W, L>(
+    rt: &(impl Threads + Sync),
+    alloc: Global,
+    reader: &mut R,
+    block: &mut [u8],
+    session: &mut Session,
+    asked: Monitoring,
+    watch: &L,
+    out: &mut W,
+) -> Result<bool, Stopped>
+where
+    R: CountedRead,
+    W: CountedWrite,
+    L: Watch,
+    requires some { length block.old ≡ 65536 }
+    requires begun { Stands [] session.old.feed }
+    ensures { IsJudgedTo (states R.remaining R.failures reader.old reader.new)
+        (states W.contents W.failures out.old out.new) asked result session.new.feed }
+{
+    'reads: loop {
+        match reader.read_counted(block) {
+            Ok(0) => return Ok(false),
+            Ok(count) => {
+                if session.judge(rt, alloc, &block[..count], asked, watch, out)? {
+                    return Ok(true);
+                }
+            }
+            Err(_) => {
+                return Err(Stopped::Fault(FileFault {
+                    line: session.line(),
+                    kind: FaultKind::Device,
+                }));
+            }
+        }
+    }
 }
 
 /// Judges what the reader gives, to its end or to the first refusal.
@@ -45,20 +84,15 @@ where
     };
     let block = bytes.as_mut_slice();
     let mut session = Session::new(alloc, asked);
-    'reads: loop {
-        match reader.read_counted(block) {
-            Ok(0) => return session.end(rt, alloc, asked, watch, out),
-            Ok(count) => {
-                if session.judge(rt, alloc, &block[..count], asked, watch, out)? {
-                    return Ok(Found::Refused);
-                }
-            }
-            Err(_) => {
-                return Err(Stopped::Fault(FileFault {
-                    line: session.line(),
-                    kind: FaultKind::Device,
-                }));
-            }
+    match judge_blocks(rt, alloc, reader, block, &mut session, asked, watch, out) {
+        Ok(false) => session.end(rt, alloc, asked, watch, out),
+        Ok(true) => {
+            drop(session);
+            Ok(Found::Refused)
+        }
+        Err(stopped) => {
+            drop(session);
+            Err(stopped)
         }
     }
 }

@@ -1,7 +1,8 @@
 //! A file that is monitored: what was judged of it, and how much of that was told.
 ghost use Rattle.std.specs.Prelude.{◌≡◌, ◌≤◌, ◌+◌, ◌++◌, ◌^◌, ℕ, [], List, None, false, true, IfErr, IfOk, OnOk, length};
 ghost use Rattle.counted_devices.specs.Sendings.{Sends};
-ghost use Rattle.record_monitor.specs.Monitored.{reports_of};
+ghost use Rattle.history_file.specs.TakenRows.{HasTakenFile};
+ghost use Rattle.record_monitor.specs.Monitored.{HasTaken, reports_of};
 ghost use Rattle.monitor_command.specs.Files.{HasNoRefusalFrom};
 ghost use Rattle.monitor_command.specs.Endings.{EndsAs, GoesOn, HasSent, IsNoFault, Stands, TellsCountsOf, TellsRefusal, is_memory};
 
@@ -158,6 +159,27 @@ fn tell_counts<W: CountedWrite>(
     write_found(text.as_slice(), watch, out)
 }
 
+/// Writes what isn't told yet of what was found in a whole file, and how many calls there were.
+fn tell_end<W: CountedWrite>(
+    alloc: Global,
+    monitor: &RecordMonitor,
+    told: usize,
+    asked: Monitoring,
+    watch: &impl Watch,
+    out: &mut W,
+) -> Result<Found, Stopped>
+    ensures { (bytes : List ℕ) → HasTakenFile HasTaken bytes monitor.now
+        → EndsAs (W.contents out.old) (W.contents out.new) asked bytes result }
+{
+    a_refused_key_has_no_order();
+    without_a_report_each_key_is_linearizable();
+    if tell_rest(alloc, monitor, told, asked, watch, out)? {
+        return Ok(Found::Refused);
+    }
+    tell_counts(alloc, monitor, asked.form, watch, out)?;
+    Ok(found_by(monitor))
+}
+
 impl Session {
     /// Judges the next block of the file, and writes what was found; whether a key is refused, so that the command
     /// ends.
@@ -214,18 +236,10 @@ impl Session {
             → EndsAs (W.contents out.old) (W.contents out.new) asked bytes result }
     {
         a_feed_has_taken_the_rows_of_its_lines::<JudgedRows>();
-        a_refused_key_has_no_order();
-        without_a_report_each_key_is_linearizable();
         let Session { feed, told } = self;
-        let rows = match feed.finish(rt) {
-            Ok(rows) => rows,
-            Err(fault) => return Err(Stopped::Fault(fault)),
-        };
-        let monitor = rows.monitor();
-        if tell_rest(alloc, monitor, told, asked, watch, out)? {
-            return Ok(Found::Refused);
+        match feed.finish(rt) {
+            Ok(rows) => tell_end(alloc, rows.monitor(), told, asked, watch, out),
+            Err(fault) => Err(Stopped::Fault(fault)),
         }
-        tell_counts(alloc, monitor, asked.form, watch, out)?;
-        Ok(found_by(monitor))
     }
 }

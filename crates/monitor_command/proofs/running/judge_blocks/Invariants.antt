@@ -1,7 +1,7 @@
 use Rattle.std.proofs.Common.{◌≡◌, ◌≤◌, ◌-◌, ◌^◌, length}
 use Rattle.counted_devices.specs.Deliveries.{Holds}
 use Rattle.monitor_command.specs.Endings.{HasSent, Stands}
-use Rattle.monitor_command.proofs.running.monitor.Given as goal
+use Rattle.monitor_command.proofs.running.judge_blocks.Given as goal
 
 abbrev pub invariant-reads : goal.invariant-reads
 invariant-reads g l = record {
