@@ -290,7 +290,26 @@ impl Watched {
         self.calls.end(read, value)
     }
 
-    /// The read has no order: why, is told, and no calls are kept.
+    /// By that state the read has no order: why, is told, and no calls are kept.
+    fn tell_refusal(
+        &mut self,
+        state: &MonitoredKey,
+        read: &ToldCall,
+        value: Option<&str>,
+        refusal: Refusal,
+    ) -> Result<(), Memory>
+        ensures state { KeepsState self.old self.new }
+        ensures told { OnOk result ((rows : List Row) (key : List ℕ) → AreTold rows key self.old
+            → IsToldCall rows key read.now → AnswersWith rows read.now (option_copied value.entry)
+            → AreTold rows key self.new) }
+    {
+        let told = tell(&self.calls, state, read, value, refusal)?;
+        self.told = boxed(self.calls.alloc(), told)?;
+        self.calls.clear();
+        Ok(())
+    }
+
+    /// The read has no order: why, is told, and no calls are kept. The key has no state from then on.
     fn refuse(
         &mut self,
         read: &ToldCall,
@@ -306,10 +325,7 @@ impl Watched {
         let Some(state) = self.state.take() else {
             return Ok(());
         };
-        let told = tell(&self.calls, &state, read, value, refusal)?;
-        self.told = boxed(self.calls.alloc(), told)?;
-        self.calls.clear();
-        Ok(())
+        self.tell_refusal(&state, read, value, refusal)
     }
 
     /// The answer of a read is judged. What is found is answered: that no order has it, or the key's first doubt.

@@ -177,8 +177,8 @@ impl WatchedKeys {
             → AreReadsOf rows gone → AreWatched most rows gone self.old → AreWatched most
             (rows ++ Row.Invoke call.now.op call.now.client key.now action.now ∷ []) gone self.new) }
     {
-        let watched = Watched::first(self.alloc, call, action, place)?;
         self.numbers.number_text(key)?;
+        let watched = Watched::first(self.alloc, call, action, place)?;
         self.watched.push(watched)?;
         Ok(())
     }

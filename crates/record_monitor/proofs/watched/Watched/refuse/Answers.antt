@@ -1,11 +1,6 @@
-use Rattle.std.proofs.Common.{Option, IfSome, sym, subst}
-use Rattle.record_monitor.specs.declared.told.Told.{Told}
-use Rattle.record_monitor.specs.Told.{IsTold}
+use Rattle.std.proofs.lemmas.Result.{on_ok_weaker}
 use Rattle.record_monitor.proofs.watched.Watched.refuse.Goals as goal
 
 pub returns-clause-told : goal.returns-clause-told
-returns-clause-told c = λ rows key told own answer. record {
-  calls = c.clear.ensures rows key;
-  told = subst (λ (o : Option Told). IfSome o (IsTold rows key)) (sym c.in_ok-self.ensures)
-      (c.in_ok-told.ensures rows key told.calls own answer);
-}
+returns-clause-told c = on_ok_weaker c.tell_refusal.result
+    (λ tells rows key told own answer. tells rows key (record { calls = told.calls; told = told.told }) own answer) c.tell_refusal.ensures.told

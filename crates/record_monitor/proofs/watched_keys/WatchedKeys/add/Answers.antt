@@ -18,3 +18,8 @@ returns-clause-watched c = λ most rows gone formed e may are a.
     c.in_ok-number_text.ensures.ok c.requires.unseen) c.in_ok-push.ensures.items refl
     (c.in_ok-watched.ensures.follows rows c.args.key.now gone formed e may are
     (λ begin b. c.requires.unseen (a.seen.all c.args.key.now begin b))) c.in_ok-watched.ensures.state c.in_ok-watched.ensures.doubt
+
+pub returns-clause-numbers : goal.returns-clause-numbers
+returns-clause-numbers c =
+    unseen_number c.args.self.now.numbers c.args.key.now c.in_ok-number_text.field-0 c.number_text.new.self c.in_ok-number_text.ensures.ok
+    c.requires.unseen
