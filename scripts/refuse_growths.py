@@ -4,8 +4,8 @@ Runs built programs with the library before them that refuses one allocation, th
 with more than 600 allocations the first 300 are refused and 300 more, evenly spread up to the last.
 
 With the word `all` every allocation from that one on is refused, for each of abd, store_example and test_store, whose runs wait most of
-their time, so that many are under way at once. Each run has to end within 10 seconds, with a status that
-docs/FORMATS.md names. What is said of one refused allocation below holds there too, but for test_store: any row may come out otherwise,
+their time, so that many are under way at once. Each run has to end within 10 seconds (test_store within 60: a row that waits for a
+worker which couldn't be started gives up after seconds), with a status that docs/FORMATS.md names. What is said of one refused allocation below holds there too, but for test_store: any row may come out otherwise,
 and the lines may end.
 
 - abd: a check, an explain and a draw with orders and one each without, two decides, three monitors, a draw by values, two draws of all keys together, a
@@ -287,7 +287,7 @@ def hostile_run(runs, at, wanted):
 
 def hostile_rows(library, top):
     """The rows of hostile gates, seats and stores, most of which wait for threads: so many runs at once."""
-    runs = Runs(library, os.path.abspath(f"{top}/crates/test_store/out/test_store"), top, 10)
+    runs = Runs(library, os.path.abspath(f"{top}/crates/test_store/out/test_store"), top, 60)
     runs.is_lasting = Runs.lasting
     count, (_, out, _) = runs.whole([])
     places = list(range(1, count + 1)) if Runs.lasting else spread(0, count, SPREAD)
